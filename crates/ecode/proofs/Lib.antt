@@ -1,0 +1,16 @@
+pub mod Lists
+pub mod Firsts
+pub mod Records
+pub mod Sets
+pub mod Typings
+pub mod Shares
+pub mod Sounds
+pub mod Verdicts
+pub mod Tells
+pub mod Meets
+pub mod Rulings
+pub mod Leasts
+pub mod Exact
+pub mod Partings
+pub mod Lone
+pub mod Wired

@@ -1,0 +1,12 @@
+pub mod Rules
+pub mod Wiring
+pub mod Sheets
+pub mod Instructions
+pub mod Image
+pub mod Typing
+pub mod Load
+pub mod Refusals
+pub mod Verdict
+pub mod Accepted
+pub mod Parts
+pub mod Laws
