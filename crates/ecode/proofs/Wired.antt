@@ -1,9 +1,11 @@
 -- Every sheet keeps the rules of a sheet, by the invariants in its type; and sheets with the same parts are one.
 use mathlib.Core.Path.{_≡_, refl, sym, ap, subst, _∙_}
 use mathlib.Core.Bool.{Bool, true, false, not, _&&_, _||_, Bool-set}
+use mathlib.Core.HLevel.{isProp→PathP}
 use mathlib.Core.List.{List, [], _∷_}
 use mathlib.Core.Logic.{_⊎_, inl, inr}
 use Prim.Native.Nat.{ℕ, zero, suc, _/_, _%_, _^_, _≤_, _<_}
+use native.Mathlib.Bridge.{le-prop}
 use native.Mathlib.Omega.{arith}
 use native.Mathlib.Nat.{div-eq-of-lt, pow-le-pow-right}
 use lib.Bits.{bitAnd}
@@ -100,4 +102,32 @@ sheet-rules s = record {
   seen = λ t p m. let f = members-fit (s .ports) (s .kinds) is-driver (s .sees) t p (s .seen) m in (f .0, driver-kind _ (f .1));
   looked = λ q p m. let f = members-fit (s .ports) (s .kinds) not-task (s .looks) q p (s .looked) m in (f .0, other-kind is-task _ Task (f .1) refl);
   owned-once = λ t u p m n. once (s .owns) t u p (s .«owned_once») m n;
+}
+
+-- a sheet is its parts: how its rules were proved makes no difference
+pub same-sheet : (a b : Sheet) → a .ports ≡ b .ports → a .kinds ≡ b .kinds → a .drivers ≡ b .drivers → a .writes ≡ b .writes → a .reads ≡ b .reads
+    → a .tasks ≡ b .tasks → a .owns ≡ b .owns → a .sees ≡ b .sees → a .conditions ≡ b .conditions → a .looks ≡ b .looks → a ≡ b
+same-sheet a b ports kinds drivers writes reads tasks owns sees conditions looks = λ i. record {
+  ports = ports i;
+  kinds = kinds i;
+  drivers = drivers i;
+  writes = writes i;
+  reads = reads i;
+  tasks = tasks i;
+  owns = owns i;
+  sees = sees i;
+  conditions = conditions i;
+  looks = looks i;
+  «has_ports» = isProp→PathP (λ i. 1 ≤ ports i) (λ _. le-prop) (a .«has_ports») (b .«has_ports») i;
+  «few_ports» = isProp→PathP (λ i. ports i ≤ 32) (λ _. le-prop) (a .«few_ports») (b .«few_ports») i;
+  «few_drivers» = isProp→PathP (λ i. drivers i ≤ 32) (λ _. le-prop) (a .«few_drivers») (b .«few_drivers») i;
+  «has_tasks» = isProp→PathP (λ i. 1 ≤ tasks i) (λ _. le-prop) (a .«has_tasks») (b .«has_tasks») i;
+  «few_tasks» = isProp→PathP (λ i. tasks i ≤ 8) (λ _. le-prop) (a .«few_tasks») (b .«few_tasks») i;
+  «few_conditions» = isProp→PathP (λ i. conditions i ≤ 16) (λ _. le-prop) (a .«few_conditions») (b .«few_conditions») i;
+  written = isProp→PathP (λ i. within (ports i) (kinds i) is-driver (writes i) ≡ true) (λ i. Bool-set _ true) (a .written) (b .written) i;
+  read = isProp→PathP (λ i. within (ports i) (kinds i) not-driver (reads i) ≡ true) (λ i. Bool-set _ true) (a .read) (b .read) i;
+  owned = isProp→PathP (λ i. within (ports i) (kinds i) is-task (owns i) ≡ true) (λ i. Bool-set _ true) (a .owned) (b .owned) i;
+  seen = isProp→PathP (λ i. within (ports i) (kinds i) is-driver (sees i) ≡ true) (λ i. Bool-set _ true) (a .seen) (b .seen) i;
+  looked = isProp→PathP (λ i. within (ports i) (kinds i) not-task (looks i) ≡ true) (λ i. Bool-set _ true) (a .looked) (b .looked) i;
+  «owned_once» = isProp→PathP (λ i. apart (owns i) ≡ true) (λ i. Bool-set _ true) (a .«owned_once») (b .«owned_once») i;
 }
