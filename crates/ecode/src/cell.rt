@@ -163,13 +163,7 @@ pub fn cell_after(sheet: &Sheet, instruction: Instruction, t: u8, c: Cell) -> Ce
                 c
             }
         }
-        Instruction::Future { kept, .. } => {
-            if in_set(kept, t) {
-                c
-            } else {
-                Cell::NotHeld
-            }
-        }
+        Instruction::Future { kept, .. } => { if in_set(kept, t) { c } else { Cell::NotHeld } }
         _ => c,
     }
 }
@@ -213,7 +207,8 @@ pub fn target_of(instruction: Instruction) -> u16
     ensures { λ r. ⌜ r ≡ target instruction ⌝ }
 {
     match instruction {
-        Instruction::Future { to, .. } | Instruction::If { to, .. } | Instruction::Jump { to } => to,
+        Instruction::Future { to, .. } | Instruction::If { to, .. } | Instruction::Jump { to } =>
+            to,
         _ => 0,
     }
 }

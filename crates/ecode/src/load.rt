@@ -25,7 +25,8 @@ fn lesser_window(t: u8, instruction: Instruction, best: u8) -> u8
     ensures { λ r. ⌜ r ≡ lesser t instruction best ⌝ }
 {
     match instruction {
-        Instruction::Release { task, window } if task == t && (best == 0 || window < best) => window,
+        Instruction::Release { task, window } if task == t && (best == 0 || window < best) =>
+            window,
         _ => best,
     }
 }
@@ -66,7 +67,10 @@ pub fn load_sum(sheet: &Sheet, program: &Program) -> Result<LoadSum, LoadFault>
 {
     let mut sum = LoadSum { parts: 0, whole: 1 };
     for t in 0..sheet.tasks {
-        sum = sum.with(program.budgets[t as usize], least_window(&program.listing, t));
+        sum = sum.with(
+            program.budgets[t as usize],
+            least_window(&program.listing, t),
+        );
         if sum.parts > sum.whole {
             return Err(LoadFault::Overload { task: t });
         }

@@ -30,7 +30,8 @@ use crate::sheet::Sheet;
 fn cells_flow(instruction: Instruction, on: Cell, next: Cell, far: Cell, there: Cell) -> bool
     ensures { λ r. ⌜ r ≡ ((not (goes-on instruction) || flows on next) && (not (names-address instruction) || flows far there)) ⌝ }
 {
-    (!has_next(instruction) || flows_into(on, next)) && (!has_target(instruction) || flows_into(far, there))
+    (!has_next(instruction) || flows_into(on, next))
+        && (!has_target(instruction) || flows_into(far, there))
 }
 
 fn cells_fit(sheet: &Sheet, line: Line, next: Line, named: Line) -> bool
