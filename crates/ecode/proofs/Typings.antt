@@ -1,4 +1,4 @@
--- The typing rule of a cell, by its parts. Assumes nothing.
+-- The typing rule of a line by whole rows, as the code goes, and the rules at an address by its lines.
 use mathlib.Core.Path.{_≡_, refl, sym, ap, ap₂, _∙_}
 use mathlib.Core.Bool.{Bool, true, false, cond, not, _&&_, _||_}
 use mathlib.Core.List.{List}
@@ -7,24 +7,51 @@ use lib.Dec.{eqb}
 use lib.ListN.{getD}
 use Rattle.ecode.specs.Wiring.{all-below}
 use Rattle.ecode.specs.Instructions.{goes-on, names-address, target}
-use Rattle.ecode.specs.Typing.{allowed, next-cell, target-cell, flows, held, cell, cell-rule, line-rule, blank, well-typed}
+use Rattle.ecode.specs.Typing.{allowed, next-cell, target-cell, flows, held, cell, cell-rule, line-rule, keeps-fewer, blank, well-typed}
+use Rattle.ecode.proofs.Lists.{all-and, all-or}
 use Rattle.ecode.specs.declared.code.Line.{Line}
 use Rattle.ecode.specs.declared.sheet.Sheet.{Sheet}
 use Rattle.ecode.specs.declared.code.Cell.{Cell}
 use Rattle.ecode.specs.declared.code.Instruction.{Instruction}
 
-module _ (s : Sheet) (i : Instruction) (t : ℕ) (c n y : Cell) where
-  abbrev flow-on : Cell → Cell → Bool
-  flow-on o f = (not (goes-on i) || flows o n) && (not (names-address i) || flows f y)
+-- the rule of a line, by whole rows
+module _ (s : Sheet) (l n y : Line) where
+  abbrev i : Instruction
+  i = l .instruction
 
-  pub not-allowed : false ≡ allowed s i t c → cell-rule s i t c n y ≡ false
-  unfolding cell-rule
-  not-allowed e = ap (λ b. b && flow-on (next-cell s i t c) (target-cell i t c)) (sym e)
+  abbrev pub allows : Bool
+  allows = all-below (s .tasks) (λ t. allowed s i t (cell l t))
 
-  pub allowed-then : true ≡ allowed s i t c → (o f : Cell) → o ≡ next-cell s i t c → ((q : Sheet) → allowed q i t c ≡ true → f ≡ target-cell i t c) → (b : Bool)
-      → b ≡ flow-on o f → cell-rule s i t c n y ≡ b
+  abbrev pub on : Bool
+  on = not (goes-on i) || all-below (s .tasks) (λ t. flows (next-cell s i t (cell l t)) (cell n t))
+
+  abbrev pub there : Bool
+  there = not (names-address i) || all-below (s .tasks) (λ t. flows (target-cell i t (cell l t)) (cell y t))
+
+  by-rows : line-rule s l n y ≡ ((allows && (on && there)) && keeps-fewer i (l .row))
   unfolding cell-rule
-  allowed-then e o f p q b r = ap (λ v. v && flow-on (next-cell s i t c) (target-cell i t c)) (sym e) ∙ ap₂ flow-on (sym p) (sym (q s (sym e))) ∙ sym r
+  by-rows = ap (λ b. b && keeps-fewer i (l .row))
+      (all-and (s .tasks) (λ t. allowed s i t (cell l t)) (λ t. (not (goes-on i) || flows (next-cell s i t (cell l t)) (cell n t)) && (not (names-address i) || flows (target-cell i t (cell l t)) (cell y t)))
+      ∙ ap (λ b. allows && b)
+      (all-and (s .tasks) (λ t. not (goes-on i) || flows (next-cell s i t (cell l t)) (cell n t)) (λ t. not (names-address i) || flows (target-cell i t (cell l t)) (cell y t))
+      ∙ ap₂ (λ a b. a && b) (all-or (s .tasks) (not (goes-on i)) (λ t. flows (next-cell s i t (cell l t)) (cell n t))) (all-or (s .tasks) (not (names-address i)) (λ t. flows (target-cell i t (cell l t)) (cell y t)))))
+
+  pub not-allowed : allows ≡ false → line-rule s l n y ≡ false
+  not-allowed a = by-rows ∙ ap (λ b. (b && (on && there)) && keeps-fewer i (l .row)) a
+
+  module _ (a : allows ≡ true) where
+    pub not-on : on ≡ false → line-rule s l n y ≡ false
+    not-on o = by-rows ∙ ap₂ (λ b d. (b && (d && there)) && keeps-fewer i (l .row)) a o
+
+    module _ (o : on ≡ true) where
+      rest : line-rule s l n y ≡ (there && keeps-fewer i (l .row))
+      rest = by-rows ∙ ap₂ (λ b d. (b && (d && there)) && keeps-fewer i (l .row)) a o
+
+      pub not-there : there ≡ false → line-rule s l n y ≡ false
+      not-there h = rest ∙ ap (λ b. b && keeps-fewer i (l .row)) h
+
+      pub all-there : there ≡ true → line-rule s l n y ≡ keeps-fewer i (l .row)
+      all-there h = rest ∙ ap (λ b. b && keeps-fewer i (l .row)) h
 
 module _ (s : Sheet) (ls : List Line) (e a : ℕ) where
   abbrev rule : Line → Line → Line → Bool

@@ -2,7 +2,6 @@
 ghost use mathlib.Core.Path.{_≡_};
 ghost use lib.ListN.{getD};
 ghost use Rattle.ecode.specs.Rules.{Judged};
-ghost use Rattle.ecode.specs.Typing.{blank};
 ghost use Rattle.ecode.specs.Verdict.{layout-rules, lines-of};
 ghost use Rattle.ecode.specs.Parts.{FromTrailer, FromRecords};
 use crate::code::BLANK;
@@ -29,13 +28,13 @@ pub fn read_listing(sheet: &Sheet, image: &[u8], trailer: Trailer) -> Result<Lis
     })
 }
 
-// The line at an address, blank where there is none.
-pub fn line_at(listing: &Listing, a: u16) -> Line
-    ensures { λ r. ⌜ r ≡ getD (lines-of (now (listing .entry))) a blank ⌝ }
+// The line at an address, or the other where there is none.
+pub fn line_or<'a>(listing: &'a Listing, a: u16, other: &'a Line) -> &'a Line
+    ensures { λ r. ⌜ now r ≡ getD (lines-of (now (listing .entry))) a (now (other .entry)) ⌝ }
 {
     if a < listing.count {
-        listing.lines[a as usize]
+        &listing.lines[a as usize]
     } else {
-        BLANK
+        other
     }
 }

@@ -8,11 +8,11 @@ use Rattle.ecode.proofs.Lists.{all-none, all-more, all-fails}
 use Rattle.ecode.proofs.row.all_held.Needs as need
 
 pub loop-t-holds : need.loop-t-holds
-loop-t-holds c = all-none (λ t. held (getD (c .args .row) t NotHeld))
+loop-t-holds c = all-none (λ (t : ℕ). held (getD (c .args .row .now) t NotHeld))
 
 pub loop-t-again : need.loop-t-again
-loop-t-again c = all-more (λ t. held (getD (c .args .row) t NotHeld)) (c .loop-t .t) (c .loop-t .inv) (sym (c .if-not-is-held .ensures tt))
+loop-t-again c = all-more (λ (t : ℕ). held (getD (c .args .row .now) t NotHeld)) (c .loop-t .t) (c .loop-t .inv) (sym (c .if-not-is-held .ensures tt))
 
 pub returns-then-not-is-held : need.returns-then-not-is-held
 returns-then-not-is-held c =
-    sym (all-fails (λ t. held (getD (c .args .row) t NotHeld)) (c .loop-t .t) (c .args .tasks) (c .loop-t-test .taken) (sym (c .if-not-is-held .ensures tt)))
+    sym (all-fails (λ (t : ℕ). held (getD (c .args .row .now) t NotHeld)) (c .loop-t .t) (c .args .sheet .now .tasks) (c .loop-t-test .taken) (sym (c .if-not-is-held .ensures tt)))

@@ -21,7 +21,7 @@ loop-t-holds c = refl
 
 pub loop-t-again : need.loop-t-again
 loop-t-again c =
-    let row = c .args .row in
+    let row = c .args .row .now in
     let t = c .loop-t .t in
     let long : length row ≡ 8 = search needs in
     let lt : t < length row = omega arith in
@@ -32,5 +32,5 @@ loop-t-again c =
 
 pub returns : need.returns
 returns c =
-    let long : length (c .args .row) ≡ 8 = search needs in
-    c .loop-t .inv ∙ ap held-set (take-all (c .loop-t .t) (c .args .row) (omega arith))
+    let long : length (c .args .row .now) ≡ 8 = search needs in
+    c .loop-t .inv ∙ ap held-set (take-all (c .loop-t .t) (c .args .row .now) (omega arith))

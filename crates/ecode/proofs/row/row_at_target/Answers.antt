@@ -4,7 +4,6 @@ use Prim.Native.Nat.{ℕ, _<_, _≤_}
 use native.Mathlib.Omega.{arith}
 use borrow.Author.Needs.{needs}
 use lib.ListN.{length, getD, length-set}
-use Rattle.ecode.specs.declared.sheet.Sheet.{Sheet}
 use Rattle.ecode.specs.declared.code.Cell.the-variants.{NotHeld}
 use Rattle.ecode.specs.Typing.{allowed, target-cell}
 use Rattle.ecode.specs.Parts.{Small}
@@ -22,8 +21,9 @@ loop-t-again c =
     let t = c .loop-t .t in
     let long : length row ≡ 8 = c .loop-t .inv .0 in
     let lt : t < length row = omega arith in
-    let here = subst (λ v. (s : Sheet) → allowed s i t v ≡ true → c .cell-at-target .result ≡ target-cell i t v) (c .loop-t .inv .2 t (omega arith)) (c .cell-at-target .ensures) in (
+    let s = c .args .sheet .now in
+    let here = subst (λ v. allowed s i t v ≡ true → c .cell-at-target .result ≡ target-cell i t v) (c .loop-t .inv .2 t (omega arith)) (c .cell-at-target .ensures s) in (
       length-set _ _ _ ∙ long,
-      change-here NotHeld row old t lt (λ k v. (s : Sheet) → allowed s i k (getD old k NotHeld) ≡ true → v ≡ target-cell i k (getD old k NotHeld)) (c .cell-at-target .result) (c .loop-t .inv .1) here,
+      change-here NotHeld row old t lt (λ k v. allowed s i k (getD old k NotHeld) ≡ true → v ≡ target-cell i k (getD old k NotHeld)) (c .cell-at-target .result) (c .loop-t .inv .1) here,
       change-not NotHeld row old t lt (c .cell-at-target .result) (c .loop-t .inv .2),
     )
