@@ -5,9 +5,9 @@ ghost use mathlib.Core.Path.{_≡_};
 ghost use Rattle.ecode.specs.Verdict.{verdict};
 ghost use Rattle.host.specs.Pitch.{pitch-sheet};
 ghost use Rattle.capi.specs.Numbers.{number};
-use ecode::check::check;
 use ecode::sheet::Sheet;
 use host::pitch;
+use loader::check;
 
 fn number_of(sheet: &Sheet, image: &[u8], budgets: &[u8]) -> u8
     ensures { λ r. ⌜ r ≡ number (verdict (now (sheet .entry)) (now (image .entry)) (now (budgets .entry))) ⌝ }

@@ -1,16 +1,5 @@
-pub mod Lists
 pub mod Firsts
-pub mod Records
-pub mod Sets
-pub mod Typings
-pub mod Shares
-pub mod Sounds
-pub mod Verdicts
-pub mod Tells
+pub mod Lists
 pub mod Meets
-pub mod Rulings
-pub mod Leasts
-pub mod Exact
 pub mod Partings
-pub mod Lone
 pub mod Wired

@@ -22,7 +22,7 @@ use Rattle.ecode.specs.declared.code.Instruction.{Instruction}
 use Rattle.ecode.specs.declared.code.Instruction.the-variants.{Call, Release, Future, If, Jump, Return}
 use Rattle.ecode.specs.declared.code.Line.{Line}
 use Rattle.ecode.specs.declared.code.Program.{Program}
-use Rattle.ecode.specs.declared.load.LoadSum.{LoadSum}
+use Rattle.ecode.specs.declared.code.LoadSum.{LoadSum}
 use Rattle.ecode.specs.declared.fault.LoadFault.{LoadFault}
 use Rattle.ecode.specs.Sheets.{In, Shares}
 use Rattle.ecode.specs.Instructions.{target}

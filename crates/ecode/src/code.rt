@@ -59,3 +59,10 @@ pub struct Program {
     pub listing: Listing,
     pub budgets: [u8; 8],
 }
+
+// A sum of fractions: so many parts of a whole.
+#[derive(Clone, Copy)]
+pub struct LoadSum {
+    pub parts: u128,
+    pub whole: u128,
+}

@@ -1,18 +1,11 @@
-// The static side of the machine: an image of E code and its budget sheet, checked exactly.
-// In the order of the data: bytes, trailer, records, a listing with rows, a program.
-pub mod budget;
-pub mod cell;
-pub mod check;
+// The data of the static side, and the definitions that every check is held to: sheets, instructions with their rows,
+// programs, faults, and in specs/ the verdict.
 pub mod code;
 pub mod fault;
-pub mod first;
 pub mod laws;
-pub mod listing;
-pub mod load;
+pub mod lines;
 pub mod port;
-pub mod record;
-pub mod refusal;
-pub mod row;
+mod refusal;
+pub mod sharing;
 pub mod sheet;
-pub mod trailer;
-pub mod typing;
+pub mod ticks;
