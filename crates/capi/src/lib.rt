@@ -5,6 +5,7 @@ ghost use mathlib.Core.Path.{_≡_};
 ghost use Rattle.ecode.specs.Verdict.{verdict};
 ghost use Rattle.host.specs.Pitch.{pitch-sheet};
 ghost use Rattle.capi.specs.Numbers.{number};
+ghost use Rattle.capi.specs.Wide.{wide-sheet};
 use ecode::sheet::Sheet;
 use host::pitch;
 use loader::check;
@@ -29,7 +30,9 @@ pub extern "C" fn pitch_check(image: &[u8], budgets: &[u8]) -> u8
 
 // The check for the drive with eight tasks, for measuring.
 #[unsafe(no_mangle)]
-pub extern "C" fn wide_check(image: &[u8], budgets: &[u8]) -> u8 {
+pub extern "C" fn wide_check(image: &[u8], budgets: &[u8]) -> u8
+    ensures { λ r. ⌜ r ≡ number (verdict wide-sheet (now (image .entry)) (now (budgets .entry))) ⌝ }
+{
     let sheet = wide::sheet();
     number_of(&sheet, image, budgets)
 }

@@ -1,4 +1,4 @@
--- What the parts of the check promise each other: contracts of inner functions cite it, no public one does.
+-- What the parts of the check promise each other, from the trailer up to the load. The check itself promises `Checked`.
 --   FromTrailer, FromRecords, FromImage   a trailer, a listing is what the image says
 --   Small, Sound                          the pairs of a listing fit the arithmetic on them
 use mathlib.Core.Path.{_≡_}
