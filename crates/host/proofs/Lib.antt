@@ -1,0 +1,4 @@
+pub mod Locals
+pub mod Stopping
+pub mod Keeping
+pub mod Holding

@@ -13,21 +13,25 @@ use Rattle.ecode.specs.declared.port.PortKind.the-variants.{Sensor, Driver, Tas
 use Rattle.ecode.specs.declared.sheet.Sheet.{Sheet}
 use Rattle.ecode.specs.Wiring.{all-below, within, is-driver, is-task, not-driver, not-task, apart}
 
+-- the kinds of the ports; from port 8 on they do not count
 abbrev pub kinds-table : List PortKind
 kinds-table = Sensor ∷ Sensor ∷ Driver ∷ Driver ∷ Driver ∷ Task ∷ Task ∷ Task ∷ replicate 24 Sensor
 
+-- the ports that each driver writes, and those that it reads
 abbrev pub writes-table : List ℕ
 writes-table = 0x08 ∷ 0x04 ∷ 0x10 ∷ replicate 29 0
 
 abbrev pub reads-table : List ℕ
 reads-table = 0x01 ∷ 0x40 ∷ 0x20 ∷ replicate 29 0
 
+-- the ports that each task owns, and those that it reads
 abbrev pub owns-table : List ℕ
 owns-table = 0x20 ∷ 0xc0 ∷ replicate 6 0
 
 abbrev pub sees-table : List ℕ
 sees-table = 0x04 ∷ 0x08 ∷ replicate 6 0
 
+-- the ports that each condition reads
 abbrev pub looks-table : List ℕ
 looks-table = 0x02 ∷ replicate 15 0
 
@@ -52,6 +56,7 @@ pub looked : within 8 kinds-table not-task looks-table ≡ true
 unfolding all-below
 looked = refl
 
+-- the sheet, with the proofs of its rules
 abbrev pub pitch-sheet : Sheet
 pitch-sheet = record {
   ports = 8;

@@ -1,7 +1,6 @@
 // The typing rules of one task's cell.
 ghost use mathlib.Core.Path.{_≡_};
 ghost use mathlib.Core.Bool.{true};
-ghost use Prim.Native.Nat.{_<_};
 ghost use Rattle.ecode.specs.declared.sheet.Sheet.{Sheet};
 ghost use Rattle.ecode.specs.Wiring.{has};
 ghost use Rattle.ecode.specs.Instructions.{goes-on, names-address, target};
@@ -14,10 +13,9 @@ use ecode::sheet::Sheet;
 
 // Whether a set has task t.
 pub fn in_set(set: u8, t: u8) -> bool
-    requires { ⌜ t < 8 ⌝ }
     ensures { λ r. ⌜ r ≡ has set t ⌝ }
 {
-    (set >> t) & 1 == 1
+    t < 8 && (set >> t) & 1 == 1
 }
 
 pub fn flows_into(a: Cell, b: Cell) -> bool
@@ -87,17 +85,16 @@ fn outlasts(wait: u8, c: Cell) -> bool
     }
 }
 
-// The wait added to consumed and taken from remaining, if that much remains.
+// The wait added to consumed and taken from remaining, if that much remains. The pairs of a row have sums of at most 240.
 fn after_wait(wait: u8, c: Cell) -> Cell
-    requires { ⌜ Small c ⌝ }
-    ensures { λ r. ⌜ (lasts wait c ≡ true → r ≡ aged wait c) ⌝ }
+    ensures { λ r. ⌜ (Small c → lasts wait c ≡ true → r ≡ aged wait c) ⌝ }
 {
     match c {
         Cell::Released {
             consumed,
             remaining,
         } if wait <= remaining => Cell::Released {
-            consumed: consumed + wait,
+            consumed: consumed.saturating_add(wait),
             remaining: remaining - wait,
         },
         _ => c,
@@ -106,7 +103,6 @@ fn after_wait(wait: u8, c: Cell) -> Cell
 
 // What the instruction asks of the cell of task t.
 pub fn is_allowed(sheet: &Sheet, instruction: Instruction, t: u8, c: Cell) -> bool
-    requires { ⌜ t < 8 ⌝ }
     ensures { λ r. ⌜ r ≡ allowed (now (sheet .entry)) instruction t c ⌝ }
 {
     match instruction {
@@ -126,7 +122,6 @@ pub fn is_allowed(sheet: &Sheet, instruction: Instruction, t: u8, c: Cell) -> bo
 
 // The cell that flows into the next row.
 pub fn cell_after(sheet: &Sheet, instruction: Instruction, t: u8, c: Cell) -> Cell
-    requires { ⌜ t < 8 ⌝ }
     ensures { λ r. ⌜ r ≡ next-cell (now (sheet .entry)) instruction t c ⌝ }
 {
     match instruction {
@@ -154,8 +149,7 @@ pub fn cell_after(sheet: &Sheet, instruction: Instruction, t: u8, c: Cell) -> Ce
 
 // The cell that flows into the row at the target, where the instruction is allowed.
 pub fn cell_at_target(instruction: Instruction, t: u8, c: Cell) -> Cell
-    requires { ⌜ t < 8 ⌝ ∗ ⌜ Small c ⌝ }
-    ensures { λ r. ⌜ ((s : Sheet) → allowed s instruction t c ≡ true → r ≡ target-cell instruction t c) ⌝ }
+    ensures { λ r. ⌜ ((s : Sheet) → Small c → allowed s instruction t c ≡ true → r ≡ target-cell instruction t c) ⌝ }
 {
     match instruction {
         Instruction::Future { wait, kept, .. } => {

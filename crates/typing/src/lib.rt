@@ -3,6 +3,16 @@ mod cell;
 mod line;
 mod row;
 
+pub use cell::cell_after;
+pub use cell::cell_at_target;
+pub use cell::flows_into;
+pub use cell::has_next;
+pub use cell::has_target;
+pub use cell::in_set;
+pub use cell::is_allowed;
+pub use cell::is_held;
+pub use cell::target_of;
+pub use row::parts_with_a_task;
 ghost use Rattle.ecode.specs.Rules.{Judged};
 ghost use Rattle.ecode.specs.Verdict.{code-rules};
 ghost use Rattle.ecode.specs.Parts.{FromImage};

@@ -22,7 +22,8 @@ loop-t-again c =
     let long : length row ≡ 8 = c .loop-t .inv .0 in
     let lt : t < length row = omega arith in
     let s = c .args .sheet .now in
-    let here = subst (λ v. allowed s i t v ≡ true → c .cell-at-target .result ≡ target-cell i t v) (c .loop-t .inv .2 t (omega arith)) (c .cell-at-target .ensures s) in (
+    let same = c .loop-t .inv .2 t (omega arith) in
+    let here = subst (λ v. allowed s i t v ≡ true → c .cell-at-target .result ≡ target-cell i t v) same (c .cell-at-target .ensures s (subst Small (sym same) (c .pre t))) in (
       length-set _ _ _ ∙ long,
       change-here NotHeld row old t lt (λ k v. allowed s i k (getD old k NotHeld) ≡ true → v ≡ target-cell i k (getD old k NotHeld)) (c .cell-at-target .result) (c .loop-t .inv .1) here,
       change-not NotHeld row old t lt (c .cell-at-target .result) (c .loop-t .inv .2),
