@@ -43,8 +43,8 @@ pub fn is_held(c: Cell) -> bool
     ensures { λ r. ⌜ r ≡ held c ⌝ }
 {
     match c {
-        Cell::NotHeld => false,
-        _ => true,
+        Cell::Idle | Cell::Released { .. } => true,
+        _ => false,
     }
 }
 

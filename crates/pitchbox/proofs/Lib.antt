@@ -1,0 +1,3 @@
+mod Divisors
+mod Wholes
+mod Examines
