@@ -1,0 +1,12 @@
+pub mod Refusals
+pub mod State
+pub mod Runner
+pub mod Choices
+pub mod Calls
+pub mod Begins
+pub mod Agreement
+pub mod Loops
+pub mod Work
+pub mod Windows
+pub mod Growth
+pub mod Figures
