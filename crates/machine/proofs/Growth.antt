@@ -9,6 +9,7 @@ use lib.IntN.{ℤ}
 use lib.ListN.{length, getD}
 use Rattle.std.specs.declared.option.Option.{Option}
 use Rattle.std.specs.declared.option.Option.the-variants.{Some, None}
+use Rattle.std.specs.Options.{isSome}
 use Rattle.std.specs.shelf.Lists.{All}
 use Rattle.std.proofs.shelf.Elements.{all-push, all-weaker, all-map}
 use Rattle.std.proofs.shelf.Tests.{eqb-true, eq-eqb, leb-false}
@@ -70,7 +71,7 @@ pub record Small (m : Meaning) (p : Contents) (s : State) : Type 0 where
   pub queue : All (Fits p) (s .queue)
   pub jobs : Jobs m p (s .pending)
   pub under : s .stop ≡ None → Under p (s .pending)
-  pub running : (i : ℕ) → s .running ≡ Some i → i < m .sheet .tasks
+  pub running : (i : ℕ) → s .running ≡ Some i → (i < m .sheet .tasks) × (is-pending (s .pending) i ≡ true)
   pub stop : (x : Stop) → s .stop ≡ Some x → StopFits m p x
   pub log : All (λ e. e .at < size p) (s .log)
 
@@ -267,6 +268,54 @@ module _ (m : Meaning) (p : Contents) (ok : Lawful m) (ty : Formed (m .sheet) p)
       go None ih = refl
       go (Some d) ih = ih (thread m p (size p) (d .address) (with-queue s (d .others))) ∙ thread-running (size p) (d .address) (with-queue s (d .others))
 
+  -- a task that is pending stays so through a tick
+  pending-stays : (i : Instruction) (v : Ports) (f : Table) (t : ℕ) → is-pending f t ≡ true → is-pending (pending-after i v f) t ≡ true
+  pending-stays (Call d) v f t e = e
+  pending-stays (Release x w) v f t e = at-place (λ t o. isSome o ≡ true) f x (Some (record { left = w; used = 0; taken = v })) t refl e
+  pending-stays (Future x a k) v f t e = e
+  pending-stays (If q a) v f t e = e
+  pending-stays (Jump a) v f t e = e
+  pending-stays Return v f t e = e
+
+  thread-keeps : (turns a : ℕ) (s : State) (t : ℕ) → is-pending (s .pending) t ≡ true → is-pending (thread m p turns a s .pending) t ≡ true
+  thread-keeps zero a s t e = e
+  thread-keeps (suc turns) a s t e = go (touched (m .sheet) (s .pending) (instruction-at p a)) (λ b s′. thread-keeps turns b s′ t)
+    where
+      onto : (o : Option ℕ) (s′ : State) → is-pending (s′ .pending) t ≡ true →
+          ((b : ℕ) (s′ : State) → is-pending (s′ .pending) t ≡ true → is-pending (thread m p turns b s′ .pending) t ≡ true) → is-pending (onward (thread m p turns) s′ o .pending) t ≡ true
+      onto None s′ e ih = e
+      onto (Some b) s′ e ih = ih b s′ e
+
+      go : (o : Option ℕ) → ((b : ℕ) (s′ : State) → is-pending (s′ .pending) t ≡ true → is-pending (thread m p turns b s′ .pending) t ≡ true) →
+          is-pending (onward (thread m p turns) (performed m (instruction-at p a) a o s .state) (performed m (instruction-at p a) a o s .next) .pending) t ≡ true
+      go None ih = onto (performed m (instruction-at p a) a None s .next) (performed m (instruction-at p a) a None s .state) (pending-stays (instruction-at p a) (s .ports) (s .pending) t e) ih
+      go (Some u) ih = e
+
+  threads-keep : (turns : ℕ) (s : State) (t : ℕ) → is-pending (s .pending) t ≡ true → is-pending (threads m p turns s .pending) t ≡ true
+  threads-keep zero s t e = e
+  threads-keep (suc turns) s t e = go (unless-stopped (s .stop) (first-due (s .queue))) (λ s′. threads-keep turns s′ t)
+    where
+      go : (o : Option Due) → ((s′ : State) → is-pending (s′ .pending) t ≡ true → is-pending (threads m p turns s′ .pending) t ≡ true) →
+          is-pending (threads-on (threads m p turns) m p s o .pending) t ≡ true
+      go None ih = e
+      go (Some d) ih = ih (thread m p (size p) (d .address) (with-queue s (d .others))) (thread-keeps (size p) (d .address) (with-queue s (d .others)) t e)
+
+  charged-keeps : (f : Table) (r : Option ℕ) (t : ℕ) → is-pending f t ≡ true → is-pending (charged f r) t ≡ true
+  charged-keeps f None t e = e
+  charged-keeps f (Some i) t e = go (eqb t i) refl
+    where
+      more : (o : Option Job) → isSome o ≡ true → isSome (one-more-used o) ≡ true
+      more None e = e
+      more (Some k) e = refl
+
+      go : (b : Bool) → eqb t i ≡ b → isSome (cond b (one-more-used (f i)) (f t)) ≡ true
+      go true q = more (f i) (ap (λ (u : ℕ). isSome (f u)) (sym (eqb-true t i q)) ∙ e)
+      go false q = e
+
+  fallen-keeps : (o : Option Job) → isSome o ≡ true → isSome (one-less-left o) ≡ true
+  fallen-keeps None e = e
+  fallen-keeps (Some k) e = refl
+
   tick-fits : (mark : Bool) (r : List ℤ) (c : Option ℕ) (s : State) → s .stop ≡ None → Small m p s →
       (tick m p r c s .stop ≡ None → Choice mark (pending-tasks (m .sheet .tasks) (tick m p r c s .pending)) c) → Small m p (tick m p r c s)
   tick-fits mark r c s g i fair = go (exhausted (budget p) (charged (s .pending) (s .running)) (s .running)) refl fair
@@ -280,10 +329,14 @@ module _ (m : Meaning) (p : Contents) (ok : Lawful m) (ty : Formed (m .sheet) p)
       mid : State
       mid = threads m p (length (s .queue)) (opening m r s (charged (s .pending) (s .running)))
 
-      runs-below : (x : Option Stop) → (x ≡ None → Choice mark (pending-tasks (m .sheet .tasks) (mid .pending)) c) →
-          mid .running ≡ s .running → (n : ℕ) → runs x (mid .running) c ≡ Some n → n < m .sheet .tasks
-      runs-below None f e n q = chosen mark (m .sheet .tasks) (mid .pending) (Some n) (subst (Choice mark (pending-tasks (m .sheet .tasks) (mid .pending))) q (f refl)) .0
-      runs-below (Some x) f e n q = i .running n (sym e ∙ q)
+      still : (t : ℕ) → is-pending (s .pending) t ≡ true → is-pending (mid .pending) t ≡ true
+      still t e = threads-keep (length (s .queue)) (opening m r s (charged (s .pending) (s .running))) t
+          (fallen-keeps (charged (s .pending) (s .running) t) (charged-keeps (s .pending) (s .running) t e))
+
+      runs-pending : (x : Option Stop) → (x ≡ None → Choice mark (pending-tasks (m .sheet .tasks) (mid .pending)) c) →
+          mid .running ≡ s .running → (n : ℕ) → runs x (mid .running) c ≡ Some n → (n < m .sheet .tasks) × (is-pending (mid .pending) n ≡ true)
+      runs-pending None f e n q = chosen mark (m .sheet .tasks) (mid .pending) (Some n) (subst (Choice mark (pending-tasks (m .sheet .tasks) (mid .pending))) q (f refl))
+      runs-pending (Some x) f e n q = let old = i .running n (sym e ∙ q) in (old .0, still n (old .1))
 
       go : (o : Option ℕ) → exhausted (budget p) (charged (s .pending) (s .running)) (s .running) ≡ o →
           Fair (exhausted (budget p) (charged (s .pending) (s .running)) (s .running)) → Small m p (After (exhausted (budget p) (charged (s .pending) (s .running)) (s .running)))
@@ -292,9 +345,9 @@ module _ (m : Meaning) (p : Contents) (ok : Lawful m) (ty : Formed (m .sheet) p)
         queue = i .queue;
         jobs = charged-fits (s .pending) (s .running) (i .jobs) (i .under g);
         under = λ z. no-stop (record { number = 14; task = x; address = 0 }) (sym z);
-        running = i .running;
+        running = λ n q. (let old = i .running n q in (old .0, charged-keeps (s .pending) (s .running) n (old .1)));
         stop = λ y q. (let z : record { number = 14; task = x; address = 0 } ≡ y = cc in
-            subst (StopFits m p) z (omega arith, i .running x (exhausted-is (charged (s .pending) (s .running)) (s .running) x e), omega (arith, ty .inside)));
+            subst (StopFits m p) z (omega arith, i .running x (exhausted-is (charged (s .pending) (s .running)) (s .running) x e) .0, omega (arith, ty .inside)));
         log = tt;
       })
       go None e f =
@@ -311,7 +364,7 @@ module _ (m : Meaning) (p : Contents) (ok : Lawful m) (ty : Formed (m .sheet) p)
             queue = t .queue;
             jobs = t .jobs;
             under = λ z. t .under;
-            running = runs-below (mid .stop) (subst Fair e f) (threads-running (length (s .queue)) (opening m r s (charged (s .pending) (s .running))));
+            running = runs-pending (mid .stop) (subst Fair e f) (threads-running (length (s .queue)) (opening m r s (charged (s .pending) (s .running))));
             stop = t .stop;
             log = t .log;
           })
@@ -418,7 +471,7 @@ grows mark m p v calls b fair =
       left = λ t k e. i .jobs t k e .left;
       used = λ t k e. (let j = i .jobs t k e in omega (arith, j .used, ticks t (j .below) .1));
       taken = λ t k e. i .jobs t k e .taken;
-      running = i .running;
+      running = λ n e. i .running n e .1;
       stop = i .stop;
       log = last-log m p (λ log. length log ≤ m .sheet .tasks * size p) calls (fresh p v) (omega arith) (w .instructions);
       events = both (s .log) (i .log) (last-log m p (All (λ e. e .waiting ≤ m .sheet .tasks)) calls (fresh p v) tt (w .waiting));

@@ -12,17 +12,21 @@ use Rattle.std.specs.declared.option.Option.{Option}
 use Rattle.std.specs.declared.option.Option.the-variants.{Some, None}
 use Rattle.std.proofs.shelf.Tests.{cases-lt}
 use Rattle.std.proofs.shelf.Lists.{getD-past}
+use Rattle.ecode.specs.declared.port.PortKind.the-variants.{Driver}
+use Rattle.ecode.specs.Sheets.{kind, Port}
 use Rattle.ecode.specs.Typing.{blank}
 use Rattle.ecode.specs.Verdict.{Contents}
 use Rattle.ecode.specs.Accepted.{Ranged, Accepted}
-use Rattle.host.specs.Meaning.{Meaning, Lawful}
+use Rattle.host.specs.Meaning.{Meaning, Lawful, reading}
 use Rattle.machine.specs.declared.stop.Stop.{Stop}
-use Rattle.machine.specs.State.{size, instruction-at, budget, Job, State, fresh}
+use Rattle.machine.specs.State.{Ports, size, instruction-at, budget, Job, State, fresh}
 use Rattle.machine.specs.Runner.{touched, queue-after, next-after, performed, onward, thread, Due, first-due, with-queue, threads-on, unless-stopped, threads, charged, exhausted, one-less-wait, opening, tick-on, tick, finish, done}
 use Rattle.machine.specs.Calls.{RunCall, counts, is-running, if-going, leaves, after, Tick, Done, AskState, AskPort}
-use Rattle.machine.specs.Agreement.{readings-of, DriverPortsAgree}
+use Rattle.machine.specs.Begins.{Begins}
+use Rattle.machine.specs.Agreement.{readings-of, LikeHosts, DriverPortsAgree}
 use Rattle.machine.proofs.Stops.{clash, Going, unless-going, threads-went, went}
 use Rattle.machine.proofs.Alike.{Alike, drivers-plain, alike-sym, alike-open, alike-instruction, alike-next, alike-done}
+use Rattle.machine.proofs.Wholes.{work}
 
 -- every instruction of the program is in range, and past its end stands a return
 ranged : (m : Meaning) (p : Contents) → Accepted (m .sheet) p → (a : ℕ) → Ranged (m .sheet) (instruction-at p a)
@@ -230,8 +234,15 @@ module _ (m : Meaning) (p : Contents) (ok : Lawful m) (range : (a : ℕ) → Ran
             ]
       ]
 
-pub agree : DriverPortsAgree
-agree m p v calls calls′ b e g g′ x px d =
+-- on one host
+abbrev Agree-on : Contents → Meaning → Meaning → Ports → Ports → List RunCall → List RunCall → Type 0
+Agree-on p m m′ v v′ calls calls′ = readings-of m calls ≡ readings-of m′ calls′
+    → Going (after m p calls (fresh p v)) → Going (after m′ p calls′ (fresh p v′))
+    → (x : ℕ) → Port (m .sheet) x → kind (m .sheet) x ≡ Driver
+    → reading (after m p calls (fresh p v) .ports) x ≡ reading (after m′ p calls′ (fresh p v′) .ports) x
+
+agree-one : (m : Meaning) (p : Contents) (v : Ports) (calls calls′ : List RunCall) → Begins m p v → Agree-on p m m v v calls calls′
+agree-one m p v calls calls′ b e g g′ x px d =
     let ok = b .lawful in
     let range = ranged m p (b .accepted) in
     let begun : Twin m p ok range (fresh p v) (fresh p v) = record {
@@ -240,3 +251,12 @@ agree m p v calls calls′ b e g g′ x px d =
     } in
     let r = run-twin m p ok range (length calls + length calls′) calls calls′ (fresh p v) (fresh p v) (omega arith) begun e g g′ in
     drivers-plain m ok (after m p calls (fresh p v) .ports) (after m p calls′ (fresh p v) .ports) (after m p calls (fresh p v) .pending) (after m p calls′ (fresh p v) .pending) x (r .alike) d
+
+-- like hosts are one
+one-host : (m m′ : Meaning) (v v′ : Ports) → LikeHosts m m′ v v′ → m ≡ m′
+one-host m m′ v v′ l = λ i. record { sheet = l .sheets i; drive = λ d xs. l .drives d xs i; work = λ t xs. l .works t xs i; test = λ q xs. l .tests q xs i }
+
+pub agree : DriverPortsAgree
+agree m m′ p v v′ calls calls′ b l =
+    subst (λ (n : Meaning). Agree-on p m n v v′ calls calls′) (one-host m m′ v v′ l)
+    (subst (λ (w : Ports). Agree-on p m m v w calls calls′) (l .ports) (agree-one m p v calls calls′ b))

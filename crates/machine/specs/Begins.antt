@@ -25,6 +25,7 @@ pub record Begins (m : Meaning) (p : Contents) (v : Ports) : Type 0 where
   pub rows : RowsOfEight p
   pub ports : length v ≡ m .sheet .ports
 
+-- of what the check accepts, and of the lone return
 abbrev pub RowsAreEight : Type 0
 RowsAreEight = (s : Sheet)
     → ((im bud : List ℕ) (p : Contents) → verdict s im bud ≡ Ok p → RowsOfEight p) × RowsOfEight (lone-return s)

@@ -48,13 +48,16 @@ readings-for Sensor = 1
 readings-for Driver = 0
 readings-for Task = 0
 
+-- how many readings a tick takes
 abbrev pub sensor-count : List PortKind → ℕ
 sensor-count [] = 0
 sensor-count (k ∷ ks) = readings-for k + sensor-count ks
 
+-- there are as many readings as sensor ports
 abbrev pub counts : Meaning → List ℤ → Bool
 counts m readings = eqb (length readings) (sensor-count (kinds-of (m .sheet)))
 
+-- task t is the running one
 abbrev pub is-running : Option ℕ → ℕ → Bool
 is-running None t = false
 is-running (Some i) t = eqb i t
@@ -115,10 +118,12 @@ answer m p (Done t) s = answered (λ _. Ended) (done-answer t s)
 answer m p AskState s = StoppedBy (state-answer s)
 answer m p (AskPort x) s = answered Value (port-answer m x s)
 
+-- one call after the other
 abbrev pub after : Meaning → Contents → List RunCall → State → State
 after m p [] s = s
 after m p (c ∷ calls) s = after m p calls (leaves m p c s)
 
+-- the answer of each call, in the state that those before it leave
 abbrev pub answers : Meaning → Contents → List RunCall → State → List Answer
 answers m p [] s = []
 answers m p (c ∷ calls) s = answer m p c s ∷ answers m p calls (leaves m p c s)
@@ -131,6 +136,7 @@ logged m (Done t) stop s′ later = later
 logged m AskState stop s′ later = later
 logged m (AskPort x) stop s′ later = later
 
+-- the logs of all ticks that count
 abbrev pub ticks-of : Meaning → Contents → List RunCall → State → List (List Event)
 ticks-of m p [] s = []
 ticks-of m p (c ∷ calls) s = logged m c (s .stop) (leaves m p c s) (ticks-of m p calls (leaves m p c s))

@@ -25,6 +25,7 @@ use Rattle.machine.specs.Refusals.{run-refusal}
 use Rattle.machine.specs.State.{State, fresh}
 use Rattle.machine.specs.Calls.{RunCall, Tick, Done, AskState, after, answers, AsChosen}
 
+-- what the image of the two-rate program says, with budgets 12 and 4
 abbrev pub two-rate-program : Contents
 two-rate-program = record { entry = entry two-rate; lines = code pitch-sheet two-rate; budgets = 12 ∷ 4 ∷ [] }
 
@@ -36,6 +37,7 @@ reading-list = pos 9200 ∷ pos 0 ∷ []
 abbrev pub ticks : ℕ → Option ℕ → List RunCall
 ticks n choice = replicate n (Tick reading-list choice)
 
+-- a fresh run of it: all ports 0
 abbrev pub pitch-start : State
 pitch-start = fresh two-rate-program (replicate 8 (pos 0))
 
@@ -56,6 +58,7 @@ worked-run =
 abbrev pub ran : ℕ → Option ℕ → Answer
 ran n running = Ran (record { instructions = n; running = running })
 
+-- what its runs come to
 pub record RunFigures : Type 0 where
   -- the program is what the check makes of the image
   pub loaded : verdict pitch-sheet two-rate (12 ∷ 4 ∷ []) ≡ Ok two-rate-program
@@ -77,6 +80,7 @@ pub record RunFigures : Type 0 where
   pub worked-ports : after pitch-meaning two-rate-program worked-run pitch-start .ports
       ≡ pos 9200 ∷ pos 0 ∷ pos 6900 ∷ pos 9200 ∷ pos 1000 ∷ pos 1000 ∷ pos 6900 ∷ pos 6900 ∷ []
 
+-- all figures
 pub record Figures : Type 0 where
   pub check : CheckFigures
   pub run : RunFigures

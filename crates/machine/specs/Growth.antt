@@ -2,7 +2,7 @@
 --   WithinBounds    every number in a state is within bounds that the program and the sheet alone give
 --   NothingGrows    so it is in every state that a run comes to
 use mathlib.Core.Path.{_≡_}
-use mathlib.Core.Bool.{Bool}
+use mathlib.Core.Bool.{Bool, true}
 use mathlib.Core.List.{List}
 use Prim.Native.Nat.{ℕ, _*_, _≤_, _<_}
 use lib.ListN.{length}
@@ -11,7 +11,7 @@ use Rattle.std.specs.shelf.Lists.{All}
 use Rattle.ecode.specs.Verdict.{Contents}
 use Rattle.host.specs.Meaning.{Meaning}
 use Rattle.machine.specs.declared.stop.Stop.{Stop}
-use Rattle.machine.specs.State.{Ports, size, Job, State, fresh}
+use Rattle.machine.specs.State.{Ports, size, Job, is-pending, State, fresh}
 use Rattle.machine.specs.Calls.{RunCall, after, ByPolicy}
 use Rattle.machine.specs.Begins.{Begins}
 
@@ -28,8 +28,8 @@ pub record WithinBounds (m : Meaning) (p : Contents) (s : State) : Type 0 where
   pub left : (t : ℕ) (k : Job) → s .pending t ≡ Some k → k .left ≤ 240
   pub used : (t : ℕ) (k : Job) → s .pending t ≡ Some k → k .used ≤ 240
   pub taken : (t : ℕ) (k : Job) → s .pending t ≡ Some k → length (k .taken) ≡ m .sheet .ports
-  -- only a task of the sheet runs
-  pub running : (i : ℕ) → s .running ≡ Some i → i < m .sheet .tasks
+  -- only a pending task runs
+  pub running : (i : ℕ) → s .running ≡ Some i → is-pending (s .pending) i ≡ true
   -- a stop names a task of the sheet and an address of the program
   pub stop : (x : Stop) → s .stop ≡ Some x → (x .number ≤ 15) × (x .task < m .sheet .tasks) × (x .address < size p)
   -- the log of the last tick has at most as many events as tasks times the length of the program

@@ -18,5 +18,6 @@ pub record Finished (m : Meaning) (p : Contents) (v : Ports) : Type 0 where
   pub thread-ends : (a more : ℕ) (s : State) → a < size p → thread m p (size p + more) a s ≡ thread m p (size p) a s
   pub none-due : (calls : List RunCall) → after m p calls (fresh p v) .stop ≡ None → All (λ b. 1 ≤ b .wait) (after m p calls (fresh p v) .queue)
 
+-- wherever a run may begin
 abbrev pub LoopsEnd : Type 0
 LoopsEnd = (m : Meaning) (p : Contents) (v : Ports) → Begins m p v → Finished m p v

@@ -128,6 +128,7 @@ performed m i a (Some t) s = record {
   next = None;
 }
 
+-- the instruction at address a
 abbrev pub step : Meaning → Contents → ℕ → State → Turn
 step m p a s = performed m (instruction-at p a) a (touched (m .sheet) (s .pending) (instruction-at p a)) s
 
@@ -151,10 +152,12 @@ abbrev pub behind : Binding → Option Due → Option Due
 behind b None = None
 behind b (Some d) = Some (record { address = d .address; others = b ∷ d .others })
 
+-- the first in queue order whose wait is 0
 abbrev pub first-due : List Binding → Option Due
 first-due [] = None
 first-due (b ∷ q) = cond (eqb (b .wait) 0) (Some (record { address = b .at; others = q })) (behind b (first-due q))
 
+-- the same state with another queue
 abbrev pub with-queue : State → List Binding → State
 with-queue s q = record { ports = s .ports; queue = q; pending = s .pending; running = s .running; stop = s .stop; log = s .log }
 
@@ -198,6 +201,7 @@ abbrev pub one-less-left : Option Job → Option Job
 one-less-left None = None
 one-less-left (Some k) = Some (record { left = k .left - 1; used = k .used; taken = k .taken })
 
+-- one tick less to wait
 abbrev pub one-less-wait : Binding → Binding
 one-less-wait b = record { wait = b .wait - 1; at = b .at }
 
@@ -270,5 +274,6 @@ finish m t (Some k) s = record {
   log = s .log;
 }
 
+-- done for task t
 abbrev pub done : Meaning → ℕ → State → State
 done m t s = finish m t (s .pending t) s

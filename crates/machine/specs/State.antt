@@ -20,10 +20,11 @@ use Rattle.ecode.specs.Verdict.{Contents}
 use Rattle.machine.specs.declared.binding.Binding.{Binding}
 use Rattle.machine.specs.declared.stop.Stop.{Stop}
 
+-- a value for each port
 abbrev pub Ports : Type 0
 Ports = List ℤ
 
--- N
+-- N, the number of instructions
 abbrev pub size : Contents → ℕ
 size p = length (p .lines)
 
@@ -41,6 +42,7 @@ pub record Job : Type 0 where
   pub used : ℕ
   pub taken : Ports
 
+-- the job of each task that is pending
 abbrev pub Table : Type 0
 Table = ℕ → Option Job
 

@@ -23,6 +23,7 @@ use Rattle.machine.specs.State.{Ports, budget, Job, Event, State, fresh}
 use Rattle.machine.specs.Calls.{RunCall, leaves, after, ticks-of, ByPolicy}
 use Rattle.machine.specs.Begins.{Begins}
 
+-- the instruction calls a driver that shares with task t
 abbrev pub shares-by : Sheet → Instruction → ℕ → Bool
 shares-by s (Call d) t = shares s d t
 shares-by s (Release u w) t = false
@@ -31,13 +32,16 @@ shares-by s (If q a) t = false
 shares-by s (Jump a) t = false
 shares-by s Return t = false
 
+-- some instruction of the log does
 abbrev pub some-shares : Sheet → ℕ → List Event → Bool
 some-shares s t [] = false
 some-shares s t (e ∷ log) = shares-by s (e .instruction) t || some-shares s t log
 
+-- no budget is used up in the state s
 abbrev pub UnderBudgets : Meaning → Contents → State → Type 0
 UnderBudgets m p s = (t : ℕ) (k : Job) → t < m .sheet .tasks → s .pending t ≡ Some k → k .used < budget p t
 
+-- nor at the begin, nor after any of the calls
 abbrev pub NoneUsedUp : Meaning → Contents → List RunCall → State → Type 0
 NoneUsedUp m p [] s = UnderBudgets m p s
 NoneUsedUp m p (c ∷ calls) s = UnderBudgets m p s × NoneUsedUp m p calls (leaves m p c s)
