@@ -1,3 +1,2 @@
-mod Divisors
 mod Wholes
 mod Examines

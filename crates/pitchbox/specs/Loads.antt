@@ -14,9 +14,9 @@ use Rattle.ecode.specs.declared.fault.LoadFault.{LoadFault}
 use Rattle.ecode.specs.Load.{window, parts, whole}
 use Rattle.ecode.specs.Rules.{Rule}
 use Rattle.ecode.specs.Verdict.{lines-of, contents, sum-rules, verdict}
-use Rattle.pitchbox.specs.declared.fraction.Fraction.{Fraction}
+use Rattle.fraction.specs.declared.fraction.Fraction.{Fraction}
 use Rattle.pitchbox.specs.declared.examine.Accepted.{Accepted}
-use Rattle.pitchbox.specs.Lowest.{Lowest}
+use Rattle.fraction.specs.Lowest.{Lowest}
 
 abbrev pub sums : Sheet → Program → List (Rule LoadFault)
 sums s p = sum-rules s (lines-of (p .listing)) (take (s .tasks) (p .budgets))

@@ -79,25 +79,3 @@ pub fn kind_of(line: &str) -> LineKind {
         LineKind::Words
     }
 }
-
-#[cfg(test)]
-mod tests {
-    use super::*;
-    use std::test::*;
-
-    #[test]
-    fn check_takes_two_files() -> Result<(), Fail> {
-        check(matches!(
-            parse(&["check", "a.img", "a.bud"]),
-            Ok(Command::Check { .. })
-        ))?;
-        check(matches!(parse(&["check", "a.img"]), Err(Mistake::NoBudgets)))
-    }
-
-    #[test]
-    fn lines_have_kinds() -> Result<(), Fail> {
-        check(matches!(kind_of("  "), LineKind::Blank))?;
-        check(matches!(kind_of(" # note"), LineKind::Note))?;
-        check(matches!(kind_of(" check a b"), LineKind::Words))
-    }
-}

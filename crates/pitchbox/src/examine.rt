@@ -1,6 +1,6 @@
 // The check of an image and its budgets, and the load of what it accepts.
 ghost use Rattle.pitchbox.specs.Loads.{Examined};
-use crate::fraction::Fraction;
+use fraction::fraction::Fraction;
 use crate::load_fault::load_of;
 use ecode::code::Program;
 use ecode::fault::LoadFault;

@@ -3,10 +3,10 @@ ghost use mathlib.Core.Path.{_≡_};
 ghost use Prim.Native.Nat.{_+_, _*_, _≤_};
 ghost use Rattle.std.specs.Options.{Cases as BySome};
 ghost use Rattle.ecode.specs.Rules.{Judged};
-ghost use Rattle.pitchbox.specs.Lowest.{Lowest};
+ghost use Rattle.fraction.specs.Lowest.{Lowest};
 ghost use Rattle.pitchbox.specs.Loads.{sums, LoadIs};
-use crate::fraction::Fraction;
-use crate::fraction::FractionDisplay;
+use fraction::fraction::Fraction;
+use fraction::fraction::FractionDisplay;
 use crate::names::Counted;
 use crate::names::CountedDisplay;
 use crate::names::Part;
@@ -139,23 +139,4 @@ pub fn write_overload<W: fmt::Write>(
         f,
         "  Look at these budgets, and at the windows of these tasks' releases."
     )
-}
-
-#[cfg(test)]
-mod tests {
-    use super::*;
-    use std::test::*;
-
-    #[test]
-    fn two_shares_are_full() -> Result<(), Fail> {
-        let none = Fraction { parts: 0, whole: 1 };
-        let Some(control) = add_share(none, 12, 20) else {
-            return Err(Fail::new("too large"));
-        };
-        let Some(both) = add_share(control, 4, 10) else {
-            return Err(Fail::new("too large"));
-        };
-        let both = both.reduced();
-        check(both.parts == 1 && both.whole == 1)
-    }
 }

@@ -5,7 +5,6 @@ mod drive;
 mod examine;
 mod explain;
 mod files;
-mod fraction;
 mod hand;
 mod help;
 mod image_fault;

@@ -2,8 +2,8 @@
 use crate::examine::Accepted;
 use crate::explain::Explained;
 use crate::explain::ExplainedDisplay;
-use crate::fraction::Fraction;
-use crate::fraction::FractionDisplay;
+use fraction::fraction::Fraction;
+use fraction::fraction::FractionDisplay;
 use crate::listing::print_listing;
 use crate::load_fault::share;
 use crate::names::Counted;

@@ -1,7 +1,7 @@
 use mathlib.Core.Path.{_≡_, subst}
 use native.Mathlib.Omega.{arith}
-use Rattle.pitchbox.proofs.Divisors.{Same, stepped, ended}
-use Rattle.pitchbox.proofs.fraction.greatest_divisor.Needs as need
+use Rattle.fraction.proofs.Divisors.{Same, stepped, ended}
+use Rattle.fraction.proofs.fraction.greatest_divisor.Needs as need
 
 pub loop-small-again : need.loop-small-again
 loop-small-again c = stepped (c .args .a) (c .args .b) (c .loop-small .large) (c .loop-small .small) (c .loop-small .inv)

@@ -2,7 +2,7 @@
 ghost use mathlib.Core.Path.{_≡_};
 ghost use Prim.Native.Nat.{_≤_};
 ghost use Rattle.std.specs.Options.{Cases as BySome};
-ghost use Rattle.pitchbox.specs.Lowest.{GreatestDivisor, Lowest};
+ghost use Rattle.fraction.specs.Lowest.{GreatestDivisor, Lowest};
 use std::fmt;
 
 // So many parts of a whole.

@@ -1,5 +1,5 @@
-use Rattle.pitchbox.proofs.Divisors.{divisor-pos, quotient-pos, lowest}
-use Rattle.pitchbox.proofs.fraction.Fraction.reduced.Needs as need
+use Rattle.fraction.proofs.Divisors.{divisor-pos, quotient-pos, lowest}
+use Rattle.fraction.proofs.fraction.Fraction.reduced.Needs as need
 
 pub div-result : need.div-result
 div-result c = divisor-pos (c .args .self .divides) (c .greatest-divisor-common .ensures)

@@ -5,7 +5,7 @@ use mathlib.Core.Path.{_≡_, sym, _∙_, ap, subst}
 use Prim.Native.Nat.{ℕ, _*_, _/_, _%_, _<_, _≤_, _∣_}
 use native.Mathlib.Nat.{dvd-refl, dvd-zero, dvd-mod-iff, dvd-mul-left, pos-of-dvd-of-pos, mul-div-cancel', mul-dvd-mul-left, dvd-of-mul-dvd-mul-left, eq-one-of-dvd-one, mul-one, mul-comm, mul-assoc}
 use native.Mathlib.Omega.{arith}
-use Rattle.pitchbox.specs.Lowest.{GreatestDivisor, Lowest}
+use Rattle.fraction.specs.Lowest.{GreatestDivisor, Lowest}
 
 abbrev pub Same : ℕ → ℕ → ℕ → ℕ → Type 0
 Same a b x y = (k : ℕ) → (k ∣ a → k ∣ b → (k ∣ x) × (k ∣ y)) × (k ∣ x → k ∣ y → (k ∣ a) × (k ∣ b))

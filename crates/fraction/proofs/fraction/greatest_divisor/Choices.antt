@@ -1,5 +1,5 @@
-use Rattle.pitchbox.proofs.Divisors.{Same}
-use Rattle.pitchbox.proofs.fraction.greatest_divisor.Given as given
+use Rattle.fraction.proofs.Divisors.{Same}
+use Rattle.fraction.proofs.fraction.greatest_divisor.Given as given
 
 abbrev pub Inv-loop-small : given.InvT-loop-small
 Inv-loop-small l = Same (l .a) (l .b) (l .large) (l .small)
