@@ -74,7 +74,8 @@ pub record CheckFigures : Type 0 where
   pub mistyped : answer (set two-rate 145 9) (12 ∷ 4 ∷ []) ≡ Some (record { number = 9; place = 5; layer = check })
   pub jump-to-itself : answer circle (1 ∷ 1 ∷ []) ≡ Some (record { number = 8; place = 0; layer = image })
   -- 1/2 + 1/3 + 1/7 + 1/42 is 1; with 41 for 42 it is 1,723/1,722
-  pub exactly-one : fits 4 (four 42) (λ k. 1) ≡ true
+  pub one-fits : fits 4 (four 42) (λ k. 1) ≡ true
+  pub exactly-one : parts 4 (four 42) (λ k. 1) ≡ whole 4 (four 42)
   pub a-hair-more : fits 4 (four 41) (λ k. 1) ≡ false
   pub parts-of : parts 4 (four 41) (λ k. 1) ≡ 1723
   pub whole-of : whole 4 (four 41) ≡ 1722

@@ -168,9 +168,10 @@ pub record Written (n : ℕ) (f : Table) (bytes : List ℕ) : Type 0 where
   pub any-order : Shuffled (pending-numbers n f) numbers
   pub rest : bytes ≡ numbers ++ replicate (8 - length numbers) 255
 
--- what end does in the state s: the bench comes back with the ports as they are and the program that ran, and the pending tasks are
--- written
-pub record GivenBack (m : Meaning) (p : Contents) (s : State) (v : Ports) (p′ : Contents) (bytes : List ℕ) : Type 0 where
+-- what end does in the state s of a run over m: the bench comes back with the host that it had, its ports as they are, and the
+-- program that ran, and the pending tasks are written
+pub record GivenBack (m : Meaning) (p : Contents) (s : State) (m′ : Meaning) (v : Ports) (p′ : Contents) (bytes : List ℕ) : Type 0 where
+  pub host : m′ ≡ m
   pub ports : v ≡ s .ports
   pub program : p′ ≡ p
   pub pending : Written (m .sheet .tasks) (s .pending) bytes

@@ -5,5 +5,5 @@ use host::figures::check_figures;
 pub fn figures_hold()
     ensures { λ _. ⌜ Figures ⌝ }
 {
-    let _ = check_figures();
+    check_figures();
 }

@@ -2,8 +2,6 @@
 use crate::hand::Act;
 use crate::help::print_conditions;
 use crate::help::print_drive;
-use crate::names::Counted;
-use crate::names::CountedDisplay;
 use crate::names::Part;
 use crate::names::PartDisplay;
 use ecode::port::PortKind;
@@ -33,21 +31,40 @@ fn print_stop(rt: &LibcRuntime, stop: Stop) -> io::Result<()> {
     println!(rt, "  {port} is held within {low} to {high}")
 }
 
+// Why a name is ignored where so many are kept.
+fn print_ignored(rt: &LibcRuntime, sheet: &Sheet, stop: Stop, kept: usize) -> io::Result<()> {
+    let port = Part::Port(stop.port);
+    let is_driver_port = stop.port < sheet.ports
+        && match sheet.kinds.get(stop.port as usize) {
+            Some(PortKind::Driver) => true,
+            _ => false,
+        };
+    let why = if !is_driver_port {
+        "it is no driver port"
+    } else if stop.low > stop.high {
+        "its low is above its high"
+    } else if kept >= 4 {
+        "four are kept"
+    } else {
+        "it has end stops already"
+    };
+    println!(rt, "  {port} is ignored: {why}")
+}
+
 // A fresh drive, and which of the end stops named it keeps.
 pub fn fresh_drive(rt: &LibcRuntime, stops: &[Stop]) -> io::Result<Drive> {
     println!(rt, "a fresh pitch drive, every port at 0")?;
-    let table = StopTable::new(&pitch::sheet(), stops);
-    let kept = table.in_use();
-    for stop in kept {
-        print_stop(rt, *stop)?;
-    }
-    let ignored = stops.len().saturating_sub(kept.len());
-    if ignored > 0 {
-        let names = Counted(ignored, "name");
-        println!(
-            rt,
-            "  {names} ignored: no driver port, named before, low above high, or a fifth"
-        )?;
+    let sheet = pitch::sheet();
+    let mut kept = 0;
+    for n in 0..stops.len() {
+        let stop = stops[n];
+        let now_kept = StopTable::new(&sheet, &stops[0..n + 1]).in_use().len();
+        if now_kept > kept {
+            print_stop(rt, stop)?;
+        } else {
+            print_ignored(rt, &sheet, stop, kept)?;
+        }
+        kept = now_kept;
     }
     Ok(EndStops::new(PitchHost::new(), stops))
 }

@@ -1,10 +1,10 @@
 // The check of an image and its budgets, and the load of what it accepts.
 ghost use Rattle.pitchbox.specs.Loads.{Examined};
-use fraction::fraction::Fraction;
 use crate::load_fault::load_of;
 use ecode::code::Program;
 use ecode::fault::LoadFault;
 use ecode::sheet::Sheet;
+use fraction::fraction::Fraction;
 use loader::check;
 
 // A program that was accepted, with its load in lowest terms.

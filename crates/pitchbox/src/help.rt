@@ -57,8 +57,8 @@ BY HAND
   Ports, drivers, tasks and conditions go by number.
   host pitch [stops PORT LOW HIGH]...
                      a fresh drive, every port at 0, with up to four driver ports held
-                     within end stops; a name that is no driver port, repeats one or has
-                     its low above its high is ignored
+                     within end stops; a name that is no driver port, repeats one that is
+                     kept or has its low above its high is ignored
   sheet              the ports, drivers, tasks and conditions
   ports              every port with its value
   put PORT VALUE     set one port        look PORT        its value
@@ -78,7 +78,8 @@ fn print_wires(rt: &LibcRuntime, part: Part, from: u32, to: u32) -> io::Result<(
     let name = format!(rt.alloc(), "{part}")?;
     let from = PortSet(from);
     let to = PortSet(to);
-    println!(rt, "           {name:<9} {from} to {to}")
+    let number = part.number();
+    println!(rt, "         {number} {name:<9} {from} to {to}")
 }
 
 // The parts of the drive: for drivers and tasks the ports that they read and write.
@@ -111,7 +112,7 @@ pub fn print_conditions(rt: &LibcRuntime, sheet: &Sheet) -> io::Result<()> {
         let condition = Part::Condition(c);
         let name = format!(rt.alloc(), "{condition}")?;
         let looks = PortSet(sheet.looks[c as usize]);
-        println!(rt, "           {name:<9} {looks} is not 0")?;
+        println!(rt, "         {c} {name:<9} {looks} is not 0")?;
     }
     Ok(())
 }

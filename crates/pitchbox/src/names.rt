@@ -29,7 +29,7 @@ pub enum Part {
 }
 
 impl Part {
-    fn number(self) -> u8 {
+    pub fn number(self) -> u8 {
         match self {
             Part::Port(n) | Part::Task(n) | Part::Driver(n) | Part::Condition(n) => n,
         }

@@ -46,11 +46,11 @@ impl fmt::Display for Place as PlaceDisplay {
     }
 }
 
-// A task with its number, and its name where it has one.
+// A task with its number and name. A number that no task has is that of all tasks: of budgets there are too few or many.
 fn write_task<W: fmt::Write>(f: &mut fmt::Formatter<W>, t: u8) -> fmt::Result {
     match Part::Task(t).name() {
         Some(name) => write!(f, "task {t} ({name})"),
-        None => write!(f, "task {t}"),
+        None => write!(f, "{t}, the number of tasks"),
     }
 }
 

@@ -2,8 +2,6 @@
 use crate::examine::Accepted;
 use crate::explain::Explained;
 use crate::explain::ExplainedDisplay;
-use fraction::fraction::Fraction;
-use fraction::fraction::FractionDisplay;
 use crate::listing::print_listing;
 use crate::load_fault::share;
 use crate::names::Counted;
@@ -13,6 +11,8 @@ use crate::names::PartDisplay;
 use ecode::code::Program;
 use ecode::fault::LoadFault;
 use ecode::sheet::Sheet;
+use fraction::fraction::Fraction;
+use fraction::fraction::FractionDisplay;
 use loader::load::least_window;
 use std::fmt;
 use std::io;

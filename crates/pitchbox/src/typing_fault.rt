@@ -181,7 +181,7 @@ pub fn write_break<W: fmt::Write>(
         Break::Keeps => {
             writeln!(
                 f,
-                "  It keeps as many tasks as the row holds, and must keep fewer."
+                "  It leaves no task to its binding: it must keep fewer tasks than the row holds."
             )?;
             write!(f, "  Look at its kept set, and at the row here.")
         }

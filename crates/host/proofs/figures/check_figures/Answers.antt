@@ -17,6 +17,7 @@ returns c = record {
   long-window = refl;
   mistyped = refl;
   jump-to-itself = refl;
+  one-fits = refl;
   exactly-one = refl;
   a-hair-more = refl;
   parts-of = refl;
