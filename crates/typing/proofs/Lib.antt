@@ -1,3 +1,4 @@
 pub mod Typings
 pub mod Sets
 pub mod Layers
+pub mod Waiting

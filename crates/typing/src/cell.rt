@@ -1,11 +1,9 @@
 // The typing rules of one task's cell.
 ghost use mathlib.Core.Path.{_≡_};
-ghost use mathlib.Core.Bool.{true};
-ghost use Rattle.ecode.specs.declared.sheet.Sheet.{Sheet};
 ghost use Rattle.ecode.specs.Wiring.{has};
 ghost use Rattle.ecode.specs.Instructions.{goes-on, names-address, target};
-ghost use Rattle.ecode.specs.Typing.{flows, held, touchable, idle, released, lasts, aged, allowed, next-cell, target-cell};
-ghost use Rattle.ecode.specs.Parts.{Small};
+ghost use Rattle.ecode.specs.Typing.{flows, held, touchable, idle, released, lasts, allowed, next-cell};
+ghost use Rattle.typing.specs.Waits.{aged-byte, target-byte};
 use ecode::code::Cell;
 use ecode::code::Instruction;
 use ecode::sharing::sharing;
@@ -85,17 +83,17 @@ fn outlasts(wait: u8, c: Cell) -> bool
     }
 }
 
-// The wait added to consumed and taken from remaining, if that much remains. The pairs of a row have sums of at most 240.
+// The wait added to consumed and taken from remaining.
 fn after_wait(wait: u8, c: Cell) -> Cell
-    ensures { λ r. ⌜ (Small c → lasts wait c ≡ true → r ≡ aged wait c) ⌝ }
+    ensures { λ r. ⌜ r ≡ aged-byte wait c ⌝ }
 {
     match c {
         Cell::Released {
             consumed,
             remaining,
-        } if wait <= remaining => Cell::Released {
+        } => Cell::Released {
             consumed: consumed.saturating_add(wait),
-            remaining: remaining - wait,
+            remaining: remaining.saturating_sub(wait),
         },
         _ => c,
     }
@@ -147,9 +145,9 @@ pub fn cell_after(sheet: &Sheet, instruction: Instruction, t: u8, c: Cell) -> Ce
     }
 }
 
-// The cell that flows into the row at the target, where the instruction is allowed.
+// The cell that flows into the row at the target.
 pub fn cell_at_target(instruction: Instruction, t: u8, c: Cell) -> Cell
-    ensures { λ r. ⌜ ((s : Sheet) → Small c → allowed s instruction t c ≡ true → r ≡ target-cell instruction t c) ⌝ }
+    ensures { λ r. ⌜ r ≡ target-byte instruction t c ⌝ }
 {
     match instruction {
         Instruction::Future { wait, kept, .. } => {
