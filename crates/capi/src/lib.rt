@@ -1,4 +1,6 @@
 // The check for callers in C: bytes in, a refusal's number out, 0 where the image is accepted.
+#![tactic(auto)]
+
 pub mod wide;
 
 ghost use Rattle.std.specs.Prelude.{◌≡◌};

@@ -1,5 +1,7 @@
 // The data of the static side, and the definitions that every check is held to: sheets, instructions with their rows,
 // programs, faults, and in specs/ the verdict.
+#![tactic(auto)]
+
 pub mod code;
 pub mod fault;
 pub mod laws;

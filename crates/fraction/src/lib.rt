@@ -1,2 +1,4 @@
 // Fractions of whole numbers, kept exact and told in lowest terms.
+#![tactic(auto)]
+
 pub mod fraction;

@@ -1,4 +1,6 @@
 // Hosts: the drives that a program runs over, and layers over them.
+#![tactic(auto)]
+
 pub mod end_stops;
 pub mod figures;
 pub mod host;

@@ -1,4 +1,6 @@
 // An image read: its trailer, and its records at each address upward.
+#![tactic(auto)]
+
 mod listing;
 mod record;
 mod trailer;

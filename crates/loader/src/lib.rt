@@ -1,4 +1,6 @@
 // The load: budgets, the load sum, and the whole check of an image and its budgets.
+#![tactic(auto)]
+
 mod budget;
 pub mod first;
 pub mod load;

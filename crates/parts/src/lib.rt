@@ -1,4 +1,6 @@
 // The parts of a run: what is asked of the sheet at every tick, the readings, the queue of bindings, and the table of tasks.
+#![tactic(auto)]
+
 pub mod data;
 pub mod feed;
 pub mod queue;

@@ -1,4 +1,6 @@
 // pitchbox: checks an image of E code with its budget sheet for the pitch drive.
+#![tactic(auto)]
+
 mod batch;
 mod command;
 mod drive;

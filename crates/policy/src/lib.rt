@@ -1,4 +1,6 @@
 // Which pending task runs next: what a policy owes, a search by preference, and three policies.
+#![tactic(auto)]
+
 pub mod earliest;
 pub mod lowest_number;
 pub mod pending;

@@ -1,4 +1,6 @@
 // The machine: a bench that is loaded with a program, and a run of it by ticks over any host and any policy.
+#![tactic(auto)]
+
 pub mod bench;
 pub mod call;
 mod load;

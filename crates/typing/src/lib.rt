@@ -1,4 +1,6 @@
 // The typing of code: the rules at each address of an image that was read.
+#![tactic(auto)]
+
 mod cell;
 mod line;
 mod row;
