@@ -6,8 +6,8 @@ pub loop-stop-preserved : goal.loop-stop-preserved
 loop-stop-preserved g c =
     let stops = c.args.stops.now in
     let lt : c.loop-stop.stop-index < length stops = omega arith in (
-      stop_more c.args.written stops c.loop-stop.stop-index _ (g.H.Host.ports c.loop-stop.host) _ lt c.stop-port.ensures.after ∙ c.loop-stop.invariant.0,
-      c.stop-port.ensures.same ∙ c.loop-stop.invariant.1,
+      stop_more c.args.written stops c.loop-stop.stop-index _ (g.H.Host.ports c.loop-stop.host) _ lt c.stop_port.ensures.after ∙ c.loop-stop.invariant.0,
+      c.stop_port.ensures.same ∙ c.loop-stop.invariant.1,
     )
 
 pub returns : goal.returns

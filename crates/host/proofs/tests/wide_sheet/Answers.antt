@@ -3,6 +3,19 @@ use Rattle.ecode.specs.Wiring.{all_below}
 use Rattle.host.proofs.tests.wide_sheet.Goals as goal
 
 -- the rules of a sheet: each is computed
-pub invariant-of-result : goal.invariant-of-result
+pub invariant_of-result : goal.invariant_of-result
 unfolding all_below
-invariant-of-result c = (lit≤ tt, (lit≤ tt, (lit≤ tt, (lit≤ tt, (lit≤ tt, (lit≤ tt, (refl, (refl, (refl, (refl, (refl, (refl, tt))))))))))))
+invariant_of-result c = record {
+  has_ports = lit≤ tt;
+  few_ports = lit≤ tt;
+  few_drivers = lit≤ tt;
+  has_tasks = lit≤ tt;
+  few_tasks = lit≤ tt;
+  few_conditions = lit≤ tt;
+  written = refl;
+  read = refl;
+  owned = refl;
+  seen = refl;
+  looked = refl;
+  owned_once = refl;
+}

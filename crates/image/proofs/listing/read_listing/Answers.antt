@@ -22,22 +22,22 @@ loop-a-preserved c =
     let n = c.args.trailer.count in
     let a = c.loop-a.a in
     let f = λ (a : ℕ). record_rules s n a (record_at im a) in
-    let got = subst (λ bs. Judged (record_rules s n a bs) (λ l. l ≡ line s bs) (Ok c.in-ok-lines.field-0)) (part_is im a) c.in-ok-lines.ensures in (
+    let got = subst (λ bs. Judged (record_rules s n a bs) (λ l. l ≡ line s bs) (Ok c.in_ok-lines.field-0)) (part_is im a) c.in_ok-lines.ensures in (
       length-set _ _ _ ∙ c.loop-a.invariant.0,
       each_more f a c.loop-a.invariant.1 ∙ got.0,
       fill_more (λ k. line s (record_at im k)) c.loop-a.lines a _ blank (omega arith) c.loop-a.invariant.2 got.1,
     )
 
-pub returns-in-err-lines : goal.returns-in-err-lines
-returns-in-err-lines c =
+pub returns-in_err-lines : goal.returns-in_err-lines
+returns-in_err-lines c =
     let s = c.args.sheet.now in
     let im = c.args.image.now in
     let n = c.args.trailer.count in
     let a = c.loop-a.a in
     let f = λ (a : ℕ). record_rules s n a (record_at im a) in
-    let x = c.in-err-lines.field-0.0 in
-    let p = err_from_is_err_and c.from-residual.result c.from-residual.ensures.1 in
-    let got = subst (λ bs. Judged (record_rules s n a bs) (λ l. l ≡ line s bs) (Err x)) (part_is im a) c.in-err-lines.ensures in
+    let x = c.in_err-lines.field-0.0 in
+    let p = err_from_is_err_and c.from_residual.result c.from_residual.ensures.1 in
+    let got = subst (λ bs. Judged (record_rules s n a bs) (λ l. l ≡ line s bs) (Err x)) (part_is im a) c.in_err-lines.ensures in
     let at = each_at f a n x c.loop-a-test.true c.loop-a.invariant.1 got in
     subst (λ r. Judged (layout_rules s im n) (FromRecords s im c.args.trailer) r) (sym (p.1 ∙ ap Err p.2)) at
 

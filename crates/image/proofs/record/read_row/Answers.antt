@@ -14,19 +14,19 @@ loop-t-preserved c =
     let ps = c.args.pairs.now in
     let f = cell_in c.args.tasks ps in
     let i = c.loop-t.t in
-    let e : Some c.in-ok-row.field-0 ≡ f i = c.in-ok-row.ensures in (
+    let e : Some c.in_ok-row.field-0 ≡ f i = c.in_ok-row.ensures in (
       length-set _ _ _ ∙ c.loop-t.invariant.0,
       all_more (λ t. is_some (f t)) i c.loop-t.invariant.1 (sym (ap is_some e)),
       fill_more (λ t. unwrap_or (f t) NotHeld) c.loop-t.row i _ NotHeld (omega arith) c.loop-t.invariant.2 (ap (λ o. unwrap_or o NotHeld) e),
     )
 
-pub returns-in-err-row : goal.returns-in-err-row
-returns-in-err-row c =
+pub returns-in_err-row : goal.returns-in_err-row
+returns-in_err-row c =
     let ps = c.args.pairs.now in
     let f = cell_in c.args.tasks ps in
-    let bad : is_some (f c.loop-t.t) ≡ false = sym (ap is_some c.in-err-row.ensures) in
+    let bad : is_some (f c.loop-t.t) ≡ false = sym (ap is_some c.in_err-row.ensures) in
     let fine = all_fails (λ t. is_some (f t)) c.loop-t.t 8 c.loop-t-test.true bad in
-    c.from-residual.ensures ∙ sym (cond-false (row_fine c.args.tasks ps) (Some (row_in c.args.tasks ps)) None fine)
+    c.from_residual.ensures ∙ sym (cond-false (row_fine c.args.tasks ps) (Some (row_in c.args.tasks ps)) None fine)
 
 pub returns : goal.returns
 returns c =

@@ -4,9 +4,8 @@ use Rattle.ecode.specs.Verdict.{lines_of}
 use Rattle.pitchbox.proofs.Wholes.{whole_pos}
 use Rattle.pitchbox.proofs.load_fault.load_of.Goals as goal
 
-pub invariant-of-load : goal.invariant-of-load
-invariant-of-load c = (
-  subst (λ n. 1 ≤ n) (sym c.in-ok-sum.ensures.1.whole)
-      (whole_pos c.args.sheet.now.tasks (window (lines_of c.args.program.now.listing))),
-  tt,
-)
+pub invariant_of-load : goal.invariant_of-load
+invariant_of-load c = record {
+  divides = subst (λ n. 1 ≤ n) (sym c.in_ok-sum.ensures.1.whole)
+      (whole_pos c.args.sheet.now.tasks (window (lines_of c.args.program.now.listing)));
+}

@@ -17,11 +17,11 @@ pub loop-a-preserved : goal.loop-a-preserved
 loop-a-preserved c =
     let b = c.args.listing.now in
     let f = λ (a : ℕ). one (well_typed c.args.sheet.now (lines_of b) b.entry a) (Typing a) in
-    each_more f c.loop-a.a c.loop-a.invariant ∙ ap (λ t. cond t None (Some (Typing c.loop-a.a))) (sym c.if-not-is-well-typed.ensures)
+    each_more f c.loop-a.a c.loop-a.invariant ∙ ap (λ t. cond t None (Some (Typing c.loop-a.a))) (sym c.if-not-is_well_typed.ensures)
 
-pub returns-then-not-is-well-typed : goal.returns-then-not-is-well-typed
-returns-then-not-is-well-typed c =
+pub returns-then-not-is_well_typed : goal.returns-then-not-is_well_typed
+returns-then-not-is_well_typed c =
     let b = c.args.listing.now in
     let a = c.loop-a.a in
     let f = λ (a : ℕ). one (well_typed c.args.sheet.now (lines_of b) b.entry a) (Typing a) in
-    each_at f a b.count (Typing a) c.loop-a-test.true c.loop-a.invariant (ap (λ t. cond t None (Some (Typing a))) (sym c.if-not-is-well-typed.ensures))
+    each_at f a b.count (Typing a) c.loop-a-test.true c.loop-a.invariant (ap (λ t. cond t None (Some (Typing a))) (sym c.if-not-is_well_typed.ensures))

@@ -3,8 +3,8 @@ use Rattle.ecode.specs.Typing.{flows, cell}
 use Rattle.ecode.proofs.Lists.{all_cong, asked}
 use Rattle.typing.proofs.line.flows_on.Goals as goal
 
-pub returns-else-not-has-next : goal.returns-else-not-has-next
-returns-else-not-has-next c =
-    c.row-flows.ensures
-    ∙ all_cong c.args.sheet.now.tasks _ _ (λ t h. ap (λ v. flows v (cell c.args.next.now t)) (c.row-after.ensures t h))
-    ∙ asked _ _ c.if-not-has-next.ensures
+pub returns-else-not-has_next : goal.returns-else-not-has_next
+returns-else-not-has_next c =
+    c.row_flows.ensures
+    ∙ all_cong c.args.sheet.now.tasks _ _ (λ t h. ap (λ v. flows v (cell c.args.next.now t)) (c.row_after.ensures t h))
+    ∙ asked _ _ c.if-not-has_next.ensures

@@ -8,8 +8,8 @@ pub loop-t-init : goal.loop-t-init
 loop-t-init c = all_none (λ (t : ℕ). held (get_or c.args.row.now t NotHeld))
 
 pub loop-t-preserved : goal.loop-t-preserved
-loop-t-preserved c = all_more (λ (t : ℕ). held (get_or c.args.row.now t NotHeld)) c.loop-t.t c.loop-t.invariant (sym c.if-not-is-held.ensures)
+loop-t-preserved c = all_more (λ (t : ℕ). held (get_or c.args.row.now t NotHeld)) c.loop-t.t c.loop-t.invariant (sym c.if-not-is_held.ensures)
 
-pub returns-then-not-is-held : goal.returns-then-not-is-held
-returns-then-not-is-held c =
-    sym (all_fails (λ (t : ℕ). held (get_or c.args.row.now t NotHeld)) c.loop-t.t c.args.sheet.now.tasks c.loop-t-test.true (sym c.if-not-is-held.ensures))
+pub returns-then-not-is_held : goal.returns-then-not-is_held
+returns-then-not-is_held c =
+    sym (all_fails (λ (t : ℕ). held (get_or c.args.row.now t NotHeld)) c.loop-t.t c.args.sheet.now.tasks c.loop-t-test.true (sym c.if-not-is_held.ensures))

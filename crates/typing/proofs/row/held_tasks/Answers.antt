@@ -4,7 +4,7 @@ use Rattle.ecode.specs.declared.code.Cell.TheVariants.{NotHeld}
 use Rattle.ecode.specs.Typing.{held, held_set}
 use Rattle.typing.proofs.Sets.{held_more}
 use Rattle.typing.proofs.row.held_tasks.Goals as goal
-use Rattle.typing.proofs.row.held_tasks.Goals.{then-is-held, else-is-held}
+use Rattle.typing.proofs.row.held_tasks.Goals.{then-is_held, else-is_held}
 
 abbrev none : Cell
 none = NotHeld
@@ -19,9 +19,9 @@ loop-t-preserved c =
     let t = c.loop-t.t in
     let long : length row ≡ 8 = search rules in
     let lt : t < length row = omega arith in
-    elim c.if-is-held.branch [
-      | then-is-held w ↦ w.mask-is ∙ held_more row t none c.loop-t.mask lt c.loop-t-test.true c.loop-t.invariant true w.if-is-held.ensures
-      | else-is-held w ↦ w.mask-is ∙ held_more row t none c.loop-t.mask lt c.loop-t-test.true c.loop-t.invariant false w.if-is-held.ensures
+    elim c.if-is_held.branch [
+      | then-is_held w ↦ w.mask-is ∙ held_more row t none c.loop-t.mask lt c.loop-t-test.true c.loop-t.invariant true w.if-is_held.ensures
+      | else-is_held w ↦ w.mask-is ∙ held_more row t none c.loop-t.mask lt c.loop-t-test.true c.loop-t.invariant false w.if-is_held.ensures
     ]
 
 pub returns : goal.returns

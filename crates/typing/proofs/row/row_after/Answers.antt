@@ -15,9 +15,9 @@ loop-t-preserved c =
     let t = c.loop-t.t in
     let long : length row ≡ 8 = c.loop-t.invariant.0 in
     let lt : t < length row = omega arith in
-    let here : c.cell-after.result ≡ next_cell s c.args.instruction t (get_or old t NotHeld) =
-    c.cell-after.ensures ∙ ap (next_cell s c.args.instruction t) (c.loop-t.invariant.2 t (omega arith)) in (
+    let here : c.cell_after.result ≡ next_cell s c.args.instruction t (get_or old t NotHeld) =
+    c.cell_after.ensures ∙ ap (next_cell s c.args.instruction t) (c.loop-t.invariant.2 t (omega arith)) in (
       length-set _ _ _ ∙ long,
-      change_here NotHeld row old t lt (λ k v. v ≡ next_cell s c.args.instruction k (get_or old k NotHeld)) c.cell-after.result c.loop-t.invariant.1 here,
-      change_not NotHeld row old t lt c.cell-after.result c.loop-t.invariant.2,
+      change_here NotHeld row old t lt (λ k v. v ≡ next_cell s c.args.instruction k (get_or old k NotHeld)) c.cell_after.result c.loop-t.invariant.1 here,
+      change_not NotHeld row old t lt c.cell_after.result c.loop-t.invariant.2,
     )

@@ -10,9 +10,9 @@ loop-t-init c = all_none (λ (t : ℕ). allowed c.args.sheet.now c.args.instruct
 pub loop-t-preserved : goal.loop-t-preserved
 loop-t-preserved c =
     all_more (λ (t : ℕ). allowed c.args.sheet.now c.args.instruction t (get_or c.args.row.now t NotHeld)) c.loop-t.t c.loop-t.invariant
-    (sym c.if-not-is-allowed.ensures)
+    (sym c.if-not-is_allowed.ensures)
 
-pub returns-then-not-is-allowed : goal.returns-then-not-is-allowed
-returns-then-not-is-allowed c =
+pub returns-then-not-is_allowed : goal.returns-then-not-is_allowed
+returns-then-not-is_allowed c =
     sym (all_fails (λ (t : ℕ). allowed c.args.sheet.now c.args.instruction t (get_or c.args.row.now t NotHeld)) c.loop-t.t c.args.sheet.now.tasks
-    c.loop-t-test.true (sym c.if-not-is-allowed.ensures))
+    c.loop-t-test.true (sym c.if-not-is_allowed.ensures))

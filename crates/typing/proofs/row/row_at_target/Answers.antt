@@ -20,9 +20,9 @@ loop-t-preserved c =
     let lt : t < length row = omega arith in
     let s = c.args.sheet.now in
     let same = c.loop-t.invariant.2 t (omega arith) in
-    let here : allowed s i t (get_or old t NotHeld) ≡ true → c.cell-at-target.result ≡ target_cell i t (get_or old t NotHeld) =
-    λ a. c.cell-at-target.ensures ∙ ap (target_byte i t) same ∙ as_allowed s i t (get_or old t NotHeld) (c.requires t) a in (
+    let here : allowed s i t (get_or old t NotHeld) ≡ true → c.cell_at_target.result ≡ target_cell i t (get_or old t NotHeld) =
+    λ a. c.cell_at_target.ensures ∙ ap (target_byte i t) same ∙ as_allowed s i t (get_or old t NotHeld) (c.requires t) a in (
       length-set _ _ _ ∙ long,
-      change_here NotHeld row old t lt (λ k v. allowed s i k (get_or old k NotHeld) ≡ true → v ≡ target_cell i k (get_or old k NotHeld)) c.cell-at-target.result c.loop-t.invariant.1 here,
-      change_not NotHeld row old t lt c.cell-at-target.result c.loop-t.invariant.2,
+      change_here NotHeld row old t lt (λ k v. allowed s i k (get_or old k NotHeld) ≡ true → v ≡ target_cell i k (get_or old k NotHeld)) c.cell_at_target.result c.loop-t.invariant.1 here,
+      change_not NotHeld row old t lt c.cell_at_target.result c.loop-t.invariant.2,
     )

@@ -10,9 +10,9 @@ loop-t-init c = all_none (λ (t : ℕ). flows (get_or c.args.row.now t NotHeld) 
 pub loop-t-preserved : goal.loop-t-preserved
 loop-t-preserved c =
     all_more (λ (t : ℕ). flows (get_or c.args.row.now t NotHeld) (get_or c.args.into.now t NotHeld)) c.loop-t.t c.loop-t.invariant
-    (sym c.if-not-flows-into.ensures)
+    (sym c.if-not-flows_into.ensures)
 
-pub returns-then-not-flows-into : goal.returns-then-not-flows-into
-returns-then-not-flows-into c =
+pub returns-then-not-flows_into : goal.returns-then-not-flows_into
+returns-then-not-flows_into c =
     sym (all_fails (λ (t : ℕ). flows (get_or c.args.row.now t NotHeld) (get_or c.args.into.now t NotHeld)) c.loop-t.t c.args.sheet.now.tasks
-    c.loop-t-test.true (sym c.if-not-flows-into.ensures))
+    c.loop-t-test.true (sym c.if-not-flows_into.ensures))

@@ -5,13 +5,13 @@ use Rattle.parts.proofs.Maps.{front_upto, length_upto}
 use Rattle.parts.proofs.Tables.{jobs_fallen}
 use Rattle.parts.proofs.data.TaskTable.count_down.Goals as goal
 
-pub invariant-of-self : goal.invariant-of-self
-invariant-of-self c =
+pub invariant_of-self : goal.invariant_of-self
+invariant_of-self c =
     let f = c.args.self.now in
-    (ap length (front_upto one_less c.args.tasks f.slots c.count-down-all.new.slots c.count-down-all.ensures) ∙ length_upto one_less c.args.tasks f.slots ∙ f.wide, tt)
+    record { wide = ap length (front_upto one_less c.args.tasks f.slots c.count_down_all.new.slots c.count_down_all.ensures) ∙ length_upto one_less c.args.tasks f.slots ∙ f.wide }
 
 pub returns : goal.returns
 returns c ports =
     let f = c.args.self.now in
     jobs_fallen ports f c.args.tasks (omega arith) c.requires.below _
-    (front_upto one_less c.args.tasks f.slots c.count-down-all.new.slots c.count-down-all.ensures)
+    (front_upto one_less c.args.tasks f.slots c.count_down_all.new.slots c.count_down_all.ensures)
