@@ -16,37 +16,37 @@ use Rattle.loader.proofs.check.Goals as goal
 refused : (s : Sheet) (im bud : List ℕ) (r : Result Program LoadFault) (x : LoadFault) → r ≡ Err x → broken (rules s im bud) ≡ Some x → Checked s im bud r
 refused s im bud r x e b = subst (Checked s im bud) (sym e) (checked s im bud (Err x) b)
 
-pub returns-in-err-listing : goal.returns-in-err-listing
-returns-in-err-listing c =
-    let q = c.from-residual in
+pub returns-in_err-listing : goal.returns-in_err-listing
+returns-in_err-listing c =
+    let q = c.from_residual in
     let p = err_from_is_err_and q.result q.ensures.1 in
     refused _ _ _ q.result _ (p.1 ∙ ap Err p.2)
-    (code_refused c.args.sheet.now c.args.image.now c.args.budgets.now c.in-err-listing.field-0.0 c.in-err-listing.ensures)
+    (code_refused c.args.sheet.now c.args.image.now c.args.budgets.now c.in_err-listing.field-0.0 c.in_err-listing.ensures)
 
-pub returns-in-err-own : goal.returns-in-err-own
-returns-in-err-own c =
-    let q = c.from-residual-in-err-own in
+pub returns-in_err-own : goal.returns-in_err-own
+returns-in_err-own c =
+    let q = c.from_residual-in_err-own in
     let p = err_from_is_err_and q.result q.ensures.1 in
     refused _ _ _ q.result _ (p.1 ∙ ap Err p.2)
-    (budget_refused c.args.sheet.now c.args.image.now c.args.budgets.now c.in-ok-listing.ensures.0 c.in-err-own.field-0.0 c.in-err-own.ensures)
+    (budget_refused c.args.sheet.now c.args.image.now c.args.budgets.now c.in_ok-listing.ensures.0 c.in_err-own.field-0.0 c.in_err-own.ensures)
 
-pub returns-in-err-load-sum : goal.returns-in-err-load-sum
-returns-in-err-load-sum c =
-    let got = c.in-ok-listing.ensures in
-    let own = c.in-ok-own.ensures in
-    let q = c.from-residual-in-err-load-sum in
+pub returns-in_err-load_sum : goal.returns-in_err-load_sum
+returns-in_err-load_sum c =
+    let got = c.in_ok-listing.ensures in
+    let own = c.in_ok-own.ensures in
+    let q = c.from_residual-in_err-load_sum in
     let p = err_from_is_err_and q.result q.ensures.1 in
     refused _ _ _ q.result _ (p.1 ∙ ap Err p.2)
-    (sum_decides c.args.sheet.now c.args.image.now c.args.budgets.now got.0 (record { listing = c.in-ok-listing.listing; budgets = c.in-ok-own.own })
-    (record { listing = got.1; budgets = own.1 }) own.0 ∙ c.in-err-load-sum.ensures)
+    (sum_decides c.args.sheet.now c.args.image.now c.args.budgets.now got.0 (record { listing = c.in_ok-listing.listing; budgets = c.in_ok-own.own })
+    (record { listing = got.1; budgets = own.1 }) own.0 ∙ c.in_err-load_sum.ensures)
 
 pub returns : goal.returns
 returns c =
     let s = c.args.sheet.now in
     let im = c.args.image.now in
     let bud = c.args.budgets.now in
-    let got = c.in-ok-listing.ensures in
-    let own = c.in-ok-own.ensures in
-    let p : Program = record { listing = c.in-ok-listing.listing; budgets = c.in-ok-own.own } in
+    let got = c.in_ok-listing.ensures in
+    let own = c.in_ok-own.ensures in
+    let p : Program = record { listing = c.in_ok-listing.listing; budgets = c.in_ok-own.own } in
     let w : FromBytes s im bud p = record { listing = got.1; budgets = own.1 } in
-    checked s im bud (Ok p) (sum_decides s im bud got.0 p w own.0 ∙ c.in-ok-load-sum.ensures.0, w)
+    checked s im bud (Ok p) (sum_decides s im bud got.0 p w own.0 ∙ c.in_ok-load_sum.ensures.0, w)

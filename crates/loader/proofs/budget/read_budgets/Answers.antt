@@ -18,19 +18,19 @@ loop-t-preserved c =
     let t = c.loop-t.t in
     let f = λ (t : ℕ). one (is_ticks (get_or bud t 0)) (Budget t) in (
       length-set _ _ _ ∙ c.loop-t.invariant.0,
-      each_more f t c.loop-t.invariant.1 ∙ ap (λ b. cond b None (Some (Budget t))) (sym c.if-not-is-tick-count.ensures),
+      each_more f t c.loop-t.invariant.1 ∙ ap (λ b. cond b None (Some (Budget t))) (sym c.if-not-is_tick_count.ensures),
       fill_more (λ k. get_or bud k 0) c.loop-t.own t (get_or bud t 0) 0 (omega arith) c.loop-t.invariant.2 refl,
     )
 
-pub returns-then-not-is-tick-count : goal.returns-then-not-is-tick-count
-returns-then-not-is-tick-count c =
+pub returns-then-not-is_tick_count : goal.returns-then-not-is_tick_count
+returns-then-not-is_tick_count c =
     let bud = c.args.budgets.now in
     let n = c.args.sheet.now.tasks in
     let t = c.loop-t.t in
     let f = λ (t : ℕ). one (is_ticks (get_or bud t 0)) (Budget t) in
     let long : eqb (length bud) n ≡ true = eq-eqb (length bud) n (omega arith) in
     cond-true (eqb (length bud) n) (broken (each n f)) (Some (Budget n)) long
-    ∙ each_at f t n (Budget t) c.loop-t-test.true c.loop-t.invariant.1 (ap (λ b. cond b None (Some (Budget t))) (sym c.if-not-is-tick-count.ensures))
+    ∙ each_at f t n (Budget t) c.loop-t-test.true c.loop-t.invariant.1 (ap (λ b. cond b None (Some (Budget t))) (sym c.if-not-is_tick_count.ensures))
 
 pub returns : goal.returns
 returns c =

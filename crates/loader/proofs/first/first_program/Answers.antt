@@ -13,5 +13,5 @@ made row b = record { entry = 0; lines = record { instruction = Return; row = ro
 pub returns : goal.returns
 returns c =
     let s = c.args.sheet.now in
-    let same = ap₂ made c.idle-row-row.ensures (take-replicate s.tasks 8 1 s.few_tasks) in
+    let same = ap₂ made c.idle_row-row.ensures (take-replicate s.tasks 8 1 s.few_tasks) in
     record { contents = same; accepted = subst (Accepted s) (sym same) (lone_accepted s) }

@@ -17,7 +17,7 @@ loop-a-preserved c =
     let a = c.loop-a.a in
     let t = c.args.t in
     let lt : a < length b.lines = omega arith in
-    c.lesser-window-best.ensures
+    c.lesser_window-best.ensures
     ∙ ap (λ (l : Line). lesser t l.instruction c.loop-a.best) (get_or_default b.lines a _ blank lt)
     ∙ ap (lesser t (get_or b.lines a blank).instruction) c.loop-a.invariant
     ∙ sym (fold_more (λ (best : ℕ) (l : Line). lesser t l.instruction best) 0 b.lines a blank lt)

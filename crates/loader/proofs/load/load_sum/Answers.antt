@@ -23,8 +23,8 @@ loop-t-init c =
     let bud = take c.args.sheet.now.tasks c.args.program.now.budgets in
     (record { parts = refl; whole = refl }, omega arith, omega arith, each_none (at ls bud))
 
-pub with-task-sum-requires : goal.with-task-sum-requires
-with-task-sum-requires c =
+pub with_task-sum-requires : goal.with_task-sum-requires
+with_task-sum-requires c =
     let le : c.loop-t.t ≤ 7 = omega arith in
     let pos : zero < 255 = omega arith in
     let top : 255 ^ c.loop-t.t ≤ 255 ^ 7 = pow-le-pow_right pos le in
@@ -36,16 +36,16 @@ loop-t-preserved c =
     let own = c.args.program.now.budgets in
     let n = c.args.sheet.now.tasks in
     let t = c.loop-t.t in
-    let new = c.with-task-sum.result in
-    let w = c.least-window.result in
+    let new = c.with_task-sum.result in
+    let w = c.least_window.result in
     let inv = c.loop-t.invariant in
-    let is = load_step ls (take n own) t w (get_or own t 0) c.loop-t.sum new inv.0 c.least-window.ensures (sym (get_or-take n own t 0 c.loop-t-test.true))
-    c.with-task-sum.ensures.parts c.with-task-sum.ensures.whole in
+    let is = load_step ls (take n own) t w (get_or own t 0) c.loop-t.sum new inv.0 c.least_window.ensures (sym (get_or-take n own t 0 c.loop-t-test.true))
+    c.with_task-sum.ensures.parts c.with_task-sum.ensures.whole in
     let le : new.parts ≤ new.whole = omega arith in
     let small : w ≤ 255 = omega arith in (
       is,
       le,
-      whole_small t c.loop-t.sum.whole new.whole w inv.2 small c.with-task-sum.ensures.whole,
+      whole_small t c.loop-t.sum.whole new.whole w inv.2 small c.with_task-sum.ensures.whole,
       each_more (at ls (take n own)) t inv.3 ∙ ap (λ b. cond b None (Some (Overload t))) (fits_when ls (take n own) (t + 1) new is le),
     )
 
@@ -55,10 +55,10 @@ returns-then-sum c =
     let own = c.args.program.now.budgets in
     let n = c.args.sheet.now.tasks in
     let t = c.loop-t.t in
-    let new = c.with-task-sum.result in
+    let new = c.with_task-sum.result in
     let inv = c.loop-t.invariant in
-    let is = load_step ls (take n own) t c.least-window.result (get_or own t 0) c.loop-t.sum new inv.0 c.least-window.ensures (sym (get_or-take n own t 0 c.loop-t-test.true))
-    c.with-task-sum.ensures.parts c.with-task-sum.ensures.whole in
+    let is = load_step ls (take n own) t c.least_window.result (get_or own t 0) c.loop-t.sum new inv.0 c.least_window.ensures (sym (get_or-take n own t 0 c.loop-t-test.true))
+    c.with_task-sum.ensures.parts c.with_task-sum.ensures.whole in
     let lt : new.whole < new.parts = omega arith in
     each_at (at ls (take n own)) t n (Overload t) c.loop-t-test.true inv.3
     (ap (λ b. cond b None (Some (Overload t))) (over_when ls (take n own) (t + 1) new is lt))

@@ -2,8 +2,8 @@ use Rattle.std.proofs.Common.{◌+◌, ◌*◌, ◌^◌, ◌<◌, ◌≤◌, ari
 use Rattle.std.proofs.lemmas.Nat.{mul-le}
 use Rattle.loader.proofs.load.with_task.Goals as goal
 
-pub overflow-add-result : goal.overflow-add-result
-overflow-add-result c =
+pub overflow_add-result : goal.overflow_add-result
+overflow_add-result c =
     let b : c.args.budget ≤ 255 = omega arith in
     let w : c.args.window ≤ 255 = omega arith in
     let p : c.args.sum.parts ≤ 255 ^ 7 = omega arith in
