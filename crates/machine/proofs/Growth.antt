@@ -153,7 +153,7 @@ module _ (m : Meaning) (p : Contents) (ok : Lawful m) (ty : Formed m.sheet p) (t
             queue = queue_fits (instruction_at p a) a s.queue (ty.ranges a l) (ty.aims a l) i.queue;
             jobs = jobs_fit (instruction_at p a) s.ports s.pending (ty.ranges a l) i.ports i.jobs;
             under = under_fits (instruction_at p a) s.ports s.pending (ty.ranges a l) i.under;
-            stop = λ x e. (let k = i.stop x e in (fifteen_at_most x.number k.0, k.1));
+            stop = i.stop;
             log = (l, i.log);
           }) ih)
       go (Some t) e ih = subst (λ (o : Option ℕ). Inside m p (After o)) (sym e)
@@ -374,7 +374,7 @@ module _ (m : Meaning) (p : Contents) (ok : Lawful m) (ty : Formed m.sheet p) (t
         jobs = λ u. gone (JobFits m p) u (i.jobs u);
         under = λ z u. gone (λ t k. k.used < budget p t) u (i.under z u);
         running = λ n e. absurd (let z : ◌≡◌ {A = ℕ} 0 1 = cc in omega arith);
-        stop = λ x e. (let k = i.stop x e in (fifteen_at_most x.number k.0, k.1));
+        stop = i.stop;
         log = i.log;
       }
 
@@ -473,7 +473,7 @@ grows mark m p v calls b fair =
       used = λ t k e. (let j = i.jobs t k e in omega (arith, j.used, (ticks t j.below).1));
       taken = λ t k e. (i.jobs t k e).taken;
       running = λ n e. (i.running n e).1;
-      stop = λ x e. (let k = i.stop x e in (fifteen_at_most x.number k.0, k.1));
+      stop = λ x e. (let k = i.stop x e in (fifteen_at_most x.number k.0, k.1, k.2));
       log = last_log m p (λ log. length log ≤ m.sheet.tasks * size p) calls (fresh p v) (omega arith) w.instructions;
       events = both s.log i.log (last_log m p (All (λ e. e.waiting ≤ m.sheet.tasks)) calls (fresh p v) tt w.waiting);
     }

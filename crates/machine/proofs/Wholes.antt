@@ -121,12 +121,12 @@ module _ (h : Meaning) (p : Contents) (v : Ports) (mark : Bool) (b : Begins h p 
       (tick_ran h p K rate mark some_slot ty wide c s rd ch load r (λ m. absurd (false≢true (sym e ∙ m))))
 
   -- what a run to the state e by these ticks keeps to, with the clocks c at its start and no budget used up
-  pub record Keeps (c : ℕ → Option ℕ) (used : Type 0) (e : State) (ticks : List (List Event)) : Type 0 where
-    pub bindings : length e.queue ≤ h.sheet.tasks
-    pub instructions : All (λ log. length log ≤ h.sheet.tasks * size p) ticks
-    pub waiting : All (λ log. All (λ e. e.waiting ≤ h.sheet.tasks) log) ticks
-    pub ready : e.stop ≡ None → (c' : ℕ → Option ℕ) × Steady c' e
-    pub timely : mark ≡ true → used → (e.stop ≡ None) × ((t : ℕ) → t < h.sheet.tasks → Clocked h.sheet t (c t) ticks)
+  record Keeps (c : ℕ → Option ℕ) (used : Type 0) (e : State) (ticks : List (List Event)) : Type 0 where
+    bindings : length e.queue ≤ h.sheet.tasks
+    instructions : All (λ log. length log ≤ h.sheet.tasks * size p) ticks
+    waiting : All (λ log. All (λ e. e.waiting ≤ h.sheet.tasks) log) ticks
+    ready : e.stop ≡ None → (c' : ℕ → Option ℕ) × Steady c' e
+    timely : mark ≡ true → used → (e.stop ≡ None) × ((t : ℕ) → t < h.sheet.tasks → Clocked h.sheet t (c t) ticks)
 
   eased : (c : ℕ → Option ℕ) (used used' : Type 0) (e : State) (ticks : List (List Event)) → (used' → used) → Keeps c used e ticks → Keeps c used' e ticks
   eased c used used' e ticks f k = record { bindings = k.bindings; instructions = k.instructions; waiting = k.waiting; ready = k.ready; timely = λ m u. k.timely m (f u) }
@@ -225,7 +225,7 @@ module _ (h : Meaning) (p : Contents) (v : Ports) (mark : Bool) (b : Begins h p 
   whole_run (AskPort x ∷ calls) c s r fair =
       eased c (NoneUsedUp h p calls s) (NoneUsedUp h p (AskPort x ∷ calls) s) (after h p calls s) (ticks_of h p calls s) (λ u. u.1) (whole_run calls c s r (λ m. (fair m).1))
 
-  pub from_fresh : (calls : List RunCall) → (mark ≡ true → AsChosen (Choice true) h p calls (fresh p v)) →
+  from_fresh : (calls : List RunCall) → (mark ≡ true → AsChosen (Choice true) h p calls (fresh p v)) →
       Keeps (λ t. None) (NoneUsedUp h p calls (fresh p v)) (after h p calls (fresh p v)) (ticks_of h p calls (fresh p v))
   from_fresh calls fair = whole_run calls (λ t. None) (fresh p v) (fresh_ready h p K rate mark some_slot ty wide v b.lawful.rules.some_tasks) fair
 

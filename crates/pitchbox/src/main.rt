@@ -20,13 +20,11 @@ mod typing_fault;
 
 use crate::batch::run_batch;
 use crate::run::{Failure, Outcome, run_words};
+use std::process::ExitCode;
 use std::{env, io};
 
-// The status 1 of a refused image or of a command that failed.
-#[derive(Clone, Copy)]
-struct Ended;
-
-fn run_arguments(rt: &HostRuntime) -> io::Result<Result<(), Ended>> {
+// The status is 1 of a refused image or of a command that failed.
+fn run_arguments(rt: &HostRuntime) -> io::Result<ExitCode> {
     let given: Vec<String> = env::args(rt)?.skip(1).collect(rt.alloc())?;
     let mut words = Vec::new(rt.alloc());
     for word in given.iter() {
@@ -34,23 +32,23 @@ fn run_arguments(rt: &HostRuntime) -> io::Result<Result<(), Ended>> {
     }
     match run_words(rt, words.as_slice()) {
         Ok(Outcome::Batch) => run_batch(rt)?,
-        Ok(Outcome::Refused) => return Ok(Err(Ended)),
+        Ok(Outcome::Refused) => return Ok(ExitCode::FAILURE),
         Ok(_) => {}
         Err(failure) => {
             eprintln!(rt; "pitchbox: {failure}")?;
             eprintln!(rt; "Look at 'pitchbox help'.")?;
-            return Ok(Err(Ended));
+            return Ok(ExitCode::FAILURE);
         }
     }
-    Ok(Ok(()))
+    Ok(ExitCode::SUCCESS)
 }
 
-fn main(rt: HostRuntime) -> Result<(), Ended> {
+fn main(rt: HostRuntime) -> ExitCode {
     match run_arguments(&rt) {
-        Ok(ended) => ended,
+        Ok(status) => status,
         Err(error) => {
             let _ = eprintln!(rt; "pitchbox: {error}");
-            Err(Ended)
+            ExitCode::FAILURE
         }
     }
 }

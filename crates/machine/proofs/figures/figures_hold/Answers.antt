@@ -158,4 +158,4 @@ runs_so = record {
 }
 
 pub returns : goal.returns
-returns c = record { check = c.check-figures.ensures; run = runs_so }
+returns c = record { check = c.check_figures.ensures; run = runs_so }
