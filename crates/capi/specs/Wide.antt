@@ -6,7 +6,7 @@ use Rattle.std.proofs.Common.{lit≤}
 use Rattle.ecode.specs.declared.port.PortKind.{PortKind}
 use Rattle.ecode.specs.declared.port.PortKind.TheVariants.{Sensor, Driver, Task}
 use Rattle.ecode.specs.declared.sheet.Sheet.{Sheet}
-use Rattle.ecode.specs.Wiring.{all_below, within, is_driver, is_task, not_driver, not_task, apart}
+use Rattle.ecode.specs.Wiring.{all_below, within, is_driver, is_task, not_driver, not_task}
 
 abbrev pub kinds_table : List PortKind
 kinds_table = replicate 16 Driver ++ (replicate 8 Task ++ replicate 8 Sensor)

@@ -1,5 +1,5 @@
 -- Lists filled place by place, and tests of every number below a bound. Assumes nothing.
-use Rattle.std.proofs.Common.{◌≡◌, ℕ, zero, suc, ◌+◌, ◌*◌, ◌<◌, ◌≤◌, Bool, true, false, cond, not, ◌&&◌, ◌||◌, ◌⊎◌, List, [], ◌∷◌, length, get_or, take, set, sym, refl, ap, ◌∙◌, subst, ap₂, inl, inr, add-one, arith, length-set, length-take, get_or-set_other, get_or-take, get_or-set_same, ext_get_or}
+use Rattle.std.proofs.Common.{◌≡◌, ℕ, zero, suc, ◌+◌, ◌<◌, ◌≤◌, Bool, true, false, not, ◌&&◌, ◌||◌, List, length, get_or, take, set, sym, refl, ap, ◌∙◌, subst, ap₂, inl, inr, add-one, arith, length-take, get_or-set_other, get_or-take, get_or-set_same, ext_get_or}
 use native.Mathlib.Decide.{le_ind}
 use Rattle.std.proofs.lemmas.Bool.{cases_eq, and_from, and_parts, and_left}
 use Rattle.ecode.specs.Wiring.{all_below}

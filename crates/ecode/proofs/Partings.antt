@@ -1,5 +1,5 @@
 -- A set among the tasks held has fewer members than they exactly when it leaves one of them. Assumes nothing.
-use Rattle.std.proofs.Common.{◌≡◌, ℕ, zero, suc, ◌+◌, ◌*◌, ◌/◌, ◌%◌, ◌^◌, ◌<◌, ◌≤◌, Bool, true, false, cond, ◌⊎◌, List, [], ◌∷◌, length, get_or, sym, refl, ap, ◌∙◌, subst, ap₂, inl, inr, pow-suc, div-one, one-add, arith, shr-shr}
+use Rattle.std.proofs.Common.{◌≡◌, ℕ, zero, suc, ◌+◌, ◌*◌, ◌/◌, ◌%◌, ◌^◌, ◌<◌, ◌≤◌, cond, ◌⊎◌, List, [], ◌∷◌, length, get_or, sym, refl, ap, ◌∙◌, ap₂, inl, inr, pow-suc, div-one, one-add, arith, shr-shr}
 use lib.Count.{ones, ones_step}
 use Rattle.std.proofs.lemmas.Bool.{cases_eq}
 use Rattle.ecode.specs.declared.code.Cell.{Cell}

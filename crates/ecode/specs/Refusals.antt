@@ -1,6 +1,5 @@
 -- THE TABLE of refusals of a load: the number, place and layer of every fault. Nothing else gives a number.
 --   1 to 8 arise in the image, 9 in the check of the code, 10 and 11 in the load
-use Rattle.std.specs.Prelude.{ℕ}
 use Rattle.ecode.specs.declared.fault.ImageFault.{ImageFault}
 use Rattle.ecode.specs.declared.fault.ImageFault.TheVariants.{TooShort, FormOrMark, RecordLength, Counts, Entry, Operation, RowPair, Target}
 use Rattle.ecode.specs.declared.fault.CodeFault.{CodeFault}

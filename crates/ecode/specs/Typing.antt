@@ -4,7 +4,7 @@
 --   next_cell      the cell that then flows into the next row; target_cell the one into the row at the target
 --   keeps_fewer    a future keeps fewer tasks than the row holds
 --   well_typed     all rules at an address, the entry's too
-use Rattle.std.specs.Prelude.{ℕ, ◌+◌, ◌-◌, ◌*◌, ◌≤◌, Bool, true, false, cond, not, ◌&&◌, ◌||◌, List, [], ◌∷◌, get_or, replicate, ◌==◌, count_ones, nat_le, nat_lt, slice_index_or}
+use Rattle.std.specs.Prelude.{ℕ, ◌+◌, ◌-◌, ◌*◌, Bool, true, false, cond, not, ◌&&◌, ◌||◌, List, [], ◌∷◌, get_or, replicate, ◌==◌, count_ones, nat_le, nat_lt, slice_index_or}
 use Rattle.ecode.specs.declared.sheet.Sheet.{Sheet}
 use Rattle.ecode.specs.declared.code.Cell.{Cell}
 use Rattle.ecode.specs.declared.code.Cell.TheVariants.{NotHeld, Idle, Released}

@@ -1,5 +1,5 @@
 -- What a layer of end stops does to the ports that a driver writes. Rests on the rules of the stops that are kept.
-use Rattle.std.proofs.Common.{◌≡◌, ℕ, ◌/◌, ◌%◌, ◌^◌, ◌<◌, Bool, true, false, cond, ◌≢◌, ◌⊎◌, List, [], ◌∷◌, length, get_or, set, ℤ, pos, ◌≤ℤ◌, sym, refl, ap, ◌∙◌, subst, inl, inr, arith, length-set, get_or-set_other, get_or-set_same}
+use Rattle.std.proofs.Common.{◌≡◌, ℕ, ◌/◌, ◌%◌, ◌^◌, ◌<◌, Bool, true, false, cond, ◌≢◌, List, [], ◌∷◌, length, get_or, set, ℤ, pos, ◌≤ℤ◌, sym, refl, ap, ◌∙◌, subst, inl, inr, arith, length-set, get_or-set_other, get_or-set_same}
 use Rattle.std.specs.List.{AllByRecursion as All}
 use Rattle.std.proofs.lemmas.Int.{ints}
 use Rattle.std.proofs.lemmas.Bool.{eq-eqb, eqb-true, lt-ltb}
@@ -7,8 +7,8 @@ use Rattle.ecode.specs.Wiring.{has}
 use Rattle.ecode.specs.Sheets.{In}
 use Rattle.host.specs.declared.stop.Stop.{Stop}
 use Rattle.host.specs.Bounds.{held}
-use Rattle.host.specs.Meaning.{Meaning, Lawful, reading}
-use Rattle.host.specs.Stops.{kept_of, stop_one, stop_all, stopped}
+use Rattle.host.specs.Meaning.{reading}
+use Rattle.host.specs.Stops.{kept_of, stop_one, stop_all}
 use Rattle.host.specs.StopLaws.{Named, Once, Proper, Stopping, EndStopsHold}
 use Rattle.host.proofs.Keeping.{kept_rules}
 

@@ -2,12 +2,12 @@
 --   pitch_sheet    ports 0 angle and 1 selector are sensors, 2, 3 and 4 driver ports, 5, 6 and 7 task ports; driver 0 copies
 --                  port 0 to 3, driver 1 copies 6 to 2, driver 2 copies 5 to 4; task 0, control, owns 5 and reads 2, task 1,
 --                  filter, owns 6 and 7 and reads 3; condition 0 reads 1
-use Rattle.std.specs.Prelude.{◌≡◌, ℕ, Bool, true, List, [], ◌∷◌, replicate, refl}
+use Rattle.std.specs.Prelude.{◌≡◌, ℕ, true, List, ◌∷◌, replicate, refl}
 use Rattle.std.proofs.Common.{lit≤}
 use Rattle.ecode.specs.declared.port.PortKind.{PortKind}
 use Rattle.ecode.specs.declared.port.PortKind.TheVariants.{Sensor, Driver, Task}
 use Rattle.ecode.specs.declared.sheet.Sheet.{Sheet}
-use Rattle.ecode.specs.Wiring.{all_below, within, is_driver, is_task, not_driver, not_task, apart}
+use Rattle.ecode.specs.Wiring.{all_below, within, is_driver, is_task, not_driver, not_task}
 
 -- the kinds of the ports; from port 8 on they do not count
 abbrev pub kinds_table : List PortKind

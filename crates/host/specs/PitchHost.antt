@@ -3,7 +3,7 @@
 --   copied, both                    a port copied to another; filter's two ports set
 --   pitch_drive, pitch_work, pitch_test    what each driver and task makes of the ports, and what the condition says
 --   pitch_meaning                   the sheet of the pitch drive with these functions
-use Rattle.std.specs.Prelude.{ℕ, zero, suc, Bool, true, false, List, set, ℤ, pos, negsuc, ◌+ℤ◌, ◌-ℤ◌, int_div, slice_set}
+use Rattle.std.specs.Prelude.{ℕ, zero, suc, Bool, true, false, List, ℤ, pos, negsuc, ◌+ℤ◌, ◌-ℤ◌, int_div, slice_set}
 use Rattle.host.specs.Meaning.{Meaning, reading}
 use Rattle.host.specs.Bounds.{held}
 use Rattle.host.specs.Pitch.{pitch_sheet}

@@ -5,7 +5,7 @@
 --   admitted, kept_of    a name kept if it is so and there is room; all names that are kept, in their order
 --   stop_one, stop_all    the ports with each named port that is written brought to the nearer bound
 --   stopped          the meaning of a layer of end stops over a lower meaning
-use Rattle.std.specs.Prelude.{ℕ, Bool, false, cond, not, ◌&&◌, ◌||◌, List, [], ◌∷◌, ◌++◌, length, take, set, ℤ, ◌==◌, int_le, nat_lt, slice_index, slice_set}
+use Rattle.std.specs.Prelude.{ℕ, Bool, false, cond, not, ◌&&◌, ◌||◌, List, [], ◌∷◌, ◌++◌, length, take, ℤ, ◌==◌, int_le, nat_lt, slice_index, slice_set}
 use Rattle.ecode.specs.declared.sheet.Sheet.{Sheet}
 use Rattle.ecode.specs.Wiring.{has, is_driver}
 use Rattle.ecode.specs.Sheets.{kind}

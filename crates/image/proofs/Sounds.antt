@@ -1,12 +1,10 @@
 -- Cells that are read from records are small. Assumes nothing.
-use Rattle.std.proofs.Common.{◌≡◌, ℕ, zero, suc, ◌+◌, ◌*◌, ◌<◌, ◌≤◌, Bool, true, false, cond, ◌&&◌, eqb, ltb, leb, ◌⊎◌, List, [], ◌∷◌, length, get_or, drop, Some, None, Option, unwrap_or, sym, refl, ap, ◌∙◌, subst, inl, inr, arith}
+use Rattle.std.proofs.Common.{◌≡◌, ℕ, zero, suc, ◌+◌, ◌*◌, ◌<◌, Bool, true, false, cond, ◌&&◌, eqb, ltb, leb, List, get_or, drop, Some, None, unwrap_or, sym, refl, subst, inl, inr, arith}
 use Rattle.std.proofs.lemmas.Bool.{cases_lt, and_parts, leb-true}
 use Rattle.std.proofs.lemmas.List.{get_or_past}
 use Rattle.ecode.specs.declared.sheet.Sheet.{Sheet}
-use Rattle.ecode.specs.declared.code.Cell.{Cell}
 use Rattle.ecode.specs.declared.code.Cell.TheVariants.{NotHeld, Idle, Released}
-use Rattle.ecode.specs.declared.code.Line.{Line}
-use Rattle.ecode.specs.Image.{is_ticks, cell_of, cell_in, row_in, lines, line, record_at, listed}
+use Rattle.ecode.specs.Image.{is_ticks, cell_of, cell_in, row_in, lines, line, record_at}
 use Rattle.ecode.specs.Typing.{cell, blank}
 use Rattle.ecode.specs.Parts.{Small, Sound}
 use Rattle.ecode.proofs.Lists.{length_listed, getD_listed}

@@ -1,8 +1,8 @@
 -- No rule is broken exactly where the image and the budgets are acceptable. Assumes nothing.
-use Rattle.std.proofs.Common.{◌≡◌, ℕ, zero, suc, ◌+◌, ◌-◌, ◌*◌, ◌/◌, ◌%◌, ◌^◌, ◌<◌, ◌≤◌, Bool, true, false, cond, not, ◌&&◌, ◌||◌, eqb, ltb, leb, ◌⊎◌, List, [], ◌∷◌, ◌++◌, length, get_or, take, drop, is_some, IfOk, Some, None, Ok, Err, Decides, Option, Result, unwrap_or, sym, refl, ap, ◌∙◌, subst, ap₂, inl, inr, le_of_mul-le-mul_right, add-one, arith, get_or-drop, ext_get_or}
+use Rattle.std.proofs.Common.{◌≡◌, ℕ, zero, suc, ◌+◌, ◌*◌, ◌<◌, ◌≤◌, Bool, true, cond, eqb, List, [], ◌∷◌, ◌++◌, length, get_or, take, drop, is_some, IfOk, Some, None, Ok, Err, Decides, Option, Result, unwrap_or, sym, refl, ap, ◌∙◌, subst, ap₂, inl, inr, le_of_mul-le-mul_right, add-one, arith, get_or-drop, ext_get_or}
 use native.Mathlib.Decide.{le_ind}
 use Rattle.std.specs.Option.{option_map}
-use Rattle.std.proofs.lemmas.Bool.{cases_eq, cases_Bool, cases_lt, leb-true, le-leb, eqb-true, eq-eqb, eqb-false}
+use Rattle.std.proofs.lemmas.Bool.{cases_Bool, cases_lt, leb-true, le-leb, eqb-false}
 use Rattle.std.proofs.lemmas.List.{get_or_past}
 use Rattle.std.proofs.lemmas.Bool.Decides.{Decides-eqb}
 use Rattle.ecode.specs.declared.sheet.Sheet.{Sheet}
@@ -17,15 +17,14 @@ use Rattle.ecode.specs.declared.fault.LoadFault.TheVariants.{Code, Budget, Overl
 use Rattle.ecode.specs.declared.code.Program.{Program}
 use Rattle.ecode.specs.declared.fault.LoadFault.{LoadFault}
 use Rattle.ecode.specs.Rules.{Rule, broken, one, each, inside, Judged}
-use Rattle.ecode.specs.Wiring.{all_below}
 use Rattle.ecode.specs.Instructions.{aimed, target}
-use Rattle.ecode.specs.Image.{size, entry, is_ticks, instruction_in, cell_in, row_fine, row_in, record_at, line, lines, listed, code}
+use Rattle.ecode.specs.Image.{size, entry, is_ticks, instruction_in, cell_in, row_fine, row_in, record_at, line, code}
 use Rattle.ecode.specs.Typing.{cell, blank, well_typed}
 use Rattle.ecode.specs.Load.{sum_below, product_below, part, width, window, fits}
 use Rattle.ecode.specs.Verdict.{trailer_rules, record_rules, layout_rules, typing_rules, budget_rules, sum_rules, image_rules, code_rules, rules, Contents, contents}
-use Rattle.ecode.specs.Accepted.{Ticks, TrailerFits, Encodes, Pairs, Holds, Aimed, Typed, KeepsFewer, Held, LeastWindow, Acceptable, Exactly, Ranged, CellRanged, Bounded, Accepted, Checked}
+use Rattle.ecode.specs.Accepted.{TrailerFits, Encodes, Pairs, Holds, Aimed, Typed, KeepsFewer, Held, Acceptable, Exactly, Ranged, CellRanged, Bounded, Accepted, Checked}
 use Rattle.ecode.specs.Parts.{FromBytes}
-use Rattle.ecode.proofs.Firsts.{broken-++, broken_inside, or_else, none_parts, past, clean_inside, each_within, each_clean}
+use Rattle.ecode.proofs.Firsts.{broken-++, broken_inside, none_parts, past, clean_inside, each_within, each_clean}
 use Rattle.ecode.proofs.Lists.{length_listed, getD_listed, all_at, all_from}
 use Rattle.image.proofs.Records.{unbroken}
 use Rattle.loader.proofs.Shares.{prod_cong, sum_cong, sum_more, whole_more}

@@ -1,20 +1,18 @@
 -- The first program of a bench, a lone return, is accepted for every sheet.
-use Rattle.std.proofs.Common.{◌≡◌, ℕ, zero, suc, ◌+◌, ◌*◌, ◌<◌, ◌≤◌, Bool, true, false, cond, eqb, ltb, ◌⊎◌, List, [], ◌∷◌, length, get_or, set, replicate, sym, refl, ap, ◌∙◌, subst, ap₂, inl, inr, arith, get_or-set_other, get_or-set_same}
+use Rattle.std.proofs.Common.{◌≡◌, ℕ, zero, suc, ◌+◌, ◌*◌, ◌<◌, Bool, true, false, cond, eqb, ltb, List, [], ◌∷◌, length, get_or, set, replicate, sym, refl, ap, ◌∙◌, subst, inl, inr, arith, get_or-set_other, get_or-set_same}
 use lib.ListN.{length-replicate, get_or-replicate}
-use Rattle.std.proofs.lemmas.Bool.{cases_eq, cases_lt, lt-ltb, le-ltb, ltb-true, cases_Bool}
+use Rattle.std.proofs.lemmas.Bool.{cases_eq, cases_lt, lt-ltb, le-ltb, ltb-true}
 use Rattle.std.proofs.lemmas.List.{get_or_past}
 use Rattle.ecode.specs.declared.sheet.Sheet.{Sheet}
 use Rattle.ecode.specs.declared.code.Cell.{Cell}
-use Rattle.ecode.specs.declared.code.Cell.TheVariants.{NotHeld, Idle, Released}
-use Rattle.ecode.specs.declared.code.Instruction.{Instruction}
-use Rattle.ecode.specs.declared.code.Instruction.TheVariants.{Call, Release, Future, If, Jump, Return}
+use Rattle.ecode.specs.declared.code.Cell.TheVariants.{NotHeld, Idle}
+use Rattle.ecode.specs.declared.code.Instruction.TheVariants.{Release, Return}
 use Rattle.ecode.specs.declared.code.Line.{Line}
 use Rattle.ecode.specs.Instructions.{target}
 use Rattle.ecode.specs.Image.{listed}
 use Rattle.ecode.specs.Typing.{cell, blank}
 use Rattle.ecode.specs.Load.{sum_below, product_below, part, width, without}
-use Rattle.ecode.specs.Verdict.{Contents}
-use Rattle.ecode.specs.Accepted.{Ticks, Held, IsReleased, CellRanged, Ranged, KeepsFewer, Aimed, Typed, LeastWindow, Bounded, WellTyped, LoadFits, Accepted, lone_return}
+use Rattle.ecode.specs.Accepted.{Ticks, Held, IsReleased, CellRanged, Ranged, KeepsFewer, Aimed, Typed, LeastWindow, Accepted, lone_return}
 use Rattle.ecode.proofs.Lists.{length_listed, getD_listed}
 use Rattle.loader.proofs.Shares.{sum_cong}
 

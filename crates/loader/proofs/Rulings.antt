@@ -1,5 +1,5 @@
 -- The typing rules decide what they say. Assumes nothing.
-use Rattle.std.proofs.Common.{◌≡◌, ℕ, zero, suc, ◌+◌, ◌*◌, ◌/◌, ◌%◌, ◌^◌, ◌<◌, ◌≤◌, Bool, true, false, cond, not, ◌&&◌, ◌||◌, eqb, ltb, List, get_or, Decides, sym, refl, ap, ◌∙◌, subst, ap₂, arith}
+use Rattle.std.proofs.Common.{◌≡◌, ℕ, ◌+◌, ◌/◌, ◌%◌, ◌^◌, ◌<◌, Bool, true, false, cond, not, ◌&&◌, ◌||◌, eqb, List, get_or, Decides, refl, arith}
 use lib.Count.{ones}
 use Rattle.std.proofs.lemmas.Bool.Decides.{Decides-eqb, Decides-and, Decides-not, Decides-like, Decides-at, Decides-ltb}
 use Rattle.ecode.specs.declared.sheet.Sheet.{Sheet}
@@ -9,10 +9,10 @@ use Rattle.ecode.specs.declared.code.Instruction.{Instruction}
 use Rattle.ecode.specs.declared.code.Instruction.TheVariants.{Call, Release, Future, If, Jump, Return}
 use Rattle.ecode.specs.declared.code.Line.{Line}
 use Rattle.ecode.specs.Wiring.{all_below, has}
-use Rattle.ecode.specs.Sheets.{shares, In, Shares}
+use Rattle.ecode.specs.Sheets.{shares}
 use Rattle.ecode.specs.Instructions.{target}
-use Rattle.ecode.specs.Typing.{flows, held, touchable, idle, released, lasts, aged, cell_rule, keeps_fewer, held_set, cell, blank, line_rule, well_typed}
-use Rattle.ecode.specs.Accepted.{Flows, Held, Touchable, IsIdle, IsReleased, Lasts, Typed, KeepsFewer}
+use Rattle.ecode.specs.Typing.{flows, held, touchable, idle, released, lasts, aged, cell_rule, keeps_fewer, held_set, cell, blank, well_typed}
+use Rattle.ecode.specs.Accepted.{Held, Typed, KeepsFewer}
 use Rattle.loader.proofs.Tells.{tells_yes, tells_when, tells_flows, tells_held, tells_touchable, tells_idle, tells_released, tells_lasts}
 use Rattle.ecode.proofs.Meets.{tells_shares}
 use Rattle.ecode.proofs.Lists.{all_at, all_from}

@@ -1,6 +1,6 @@
 -- The load sum, one task at a time. Assumes nothing.
-use Rattle.std.proofs.Common.{◌≡◌, ℕ, zero, suc, ◌+◌, ◌*◌, ◌^◌, ◌<◌, ◌≤◌, Bool, true, false, cond, eqb, leb, ◌⊎◌, List, get_or, sym, refl, ap, ◌∙◌, ap₂, inl, inr, mul_assoc, mul_comm, add-mul, mul-le-mul, pow-suc, mul-one, add-one, arith}
-use Rattle.std.proofs.lemmas.Bool.{cases_Bool, eqb-true, ne_eqb, eq-eqb, le-leb, lt-leb, cond-true, cond-false}
+use Rattle.std.proofs.Common.{◌≡◌, ℕ, zero, suc, ◌+◌, ◌*◌, ◌^◌, ◌<◌, ◌≤◌, Bool, true, false, cond, eqb, List, get_or, sym, refl, ap, ◌∙◌, ap₂, mul_assoc, add-mul, mul-le-mul, pow-suc, mul-one, add-one, arith}
+use Rattle.std.proofs.lemmas.Bool.{ne_eqb, eq-eqb, le-leb, lt-leb, cond-true, cond-false}
 use Rattle.ecode.specs.declared.code.Line.{Line}
 use Rattle.ecode.specs.declared.code.LoadSum.{LoadSum}
 use Rattle.ecode.specs.Load.{window, sum_below, product_below, without, width, part, parts, whole, fits}

@@ -1,6 +1,6 @@
 -- Tests and what they tell. Assumes nothing.
-use Rattle.std.proofs.Common.{◌≡◌, ℕ, zero, suc, ◌+◌, ◌-◌, ◌*◌, ◌/◌, ◌%◌, ◌^◌, ◌<◌, ◌≤◌, Bool, true, false, cond, not, ◌&&◌, ◌||◌, eqb, ltb, leb, ◌⊎◌, List, [], ◌∷◌, length, get_or, Some, None, Decides, Option, sym, refl, ap, ◌∙◌, subst, ap₂, inl, inr, arith}
-use Rattle.std.proofs.lemmas.Bool.{eqb-true, eq-eqb, ne_eqb, ltb-true, lt-ltb, le-ltb, leb-true, le-leb, and_parts, and_from, cond-true, cond-false, cases_Bool}
+use Rattle.std.proofs.Common.{◌≡◌, ℕ, ◌+◌, ◌^◌, ◌<◌, ◌≤◌, Bool, true, false, cond, ◌&&◌, eqb, ltb, leb, ◌⊎◌, List, ◌∷◌, Some, None, Decides, Option, refl, ap, ◌∙◌, subst, inl, inr, arith}
+use Rattle.std.proofs.lemmas.Bool.{ltb-true, lt-ltb, leb-true, le-leb, and_parts}
 use Rattle.std.proofs.lemmas.Bool.Decides.{Decides-eqb, Decides-and, Decides-like, nat_tests}
 use Rattle.ecode.specs.declared.sheet.Sheet.{Sheet}
 use Rattle.ecode.specs.declared.code.Cell.{Cell}
@@ -9,8 +9,8 @@ use Rattle.ecode.specs.declared.code.Instruction.{Instruction}
 use Rattle.ecode.specs.declared.code.Instruction.TheVariants.{Call, Release, Future, If, Jump, Return}
 use Rattle.ecode.specs.Rules.{Rule, broken}
 use Rattle.ecode.specs.Instructions.{aimed}
-use Rattle.ecode.specs.Image.{trailer_byte, told, size, entry, is_ticks, decoded, cell_of}
-use Rattle.ecode.specs.Typing.{flows, held, touchable, idle, released, lasts, aged}
+use Rattle.ecode.specs.Image.{is_ticks, decoded, cell_of}
+use Rattle.ecode.specs.Typing.{flows, held, touchable, idle, released, lasts}
 use Rattle.ecode.specs.Verdict.{trailer_rules}
 use Rattle.ecode.specs.Accepted.{Ticks, TrailerFits, Encodes, Pairs, Aimed, Flows, Held, Touchable, IsIdle, IsReleased, Lasts}
 

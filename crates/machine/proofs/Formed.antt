@@ -19,7 +19,6 @@ use Rattle.host.specs.Meaning.{Meaning}
 use Rattle.machine.specs.State.{Ports, size, instruction_at}
 use Rattle.machine.specs.Runner.{next_after}
 use Rattle.machine.proofs.Cells.{cell_at}
-use Rattle.machine.proofs.Rows.{rows}
 
 -- a future leaves a held task to its binding
 abbrev pub Parts : ℕ → (ℕ → Cell) → Instruction → Type 0

@@ -17,7 +17,6 @@ use Rattle.machine.specs.Begins.{Begins}
 use Rattle.machine.specs.Agreement.{readings_of, LikeHosts, DriverPortsAgree}
 use Rattle.machine.proofs.Stops.{clash, Going, unless_going, threads_went, went}
 use Rattle.machine.proofs.Alike.{Alike, drivers_plain, alike_sym, alike_open, alike_instruction, alike_next, alike_done}
-use Rattle.machine.proofs.Wholes.{work}
 
 -- every instruction of the program is in range, and past its end stands a return
 ranged : (m : Meaning) (p : Contents) → Accepted m.sheet p → (a : ℕ) → Ranged m.sheet (instruction_at p a)

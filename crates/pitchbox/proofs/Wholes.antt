@@ -1,5 +1,5 @@
 -- The whole of a load sum is above 0: each window counts as at least 1.
-use Rattle.std.proofs.Common.{◌≡◌, ℕ, zero, suc, ◌*◌, ◌≤◌, Bool, true, false, cond, eqb, refl, arith, lit≤}
+use Rattle.std.proofs.Common.{◌≡◌, ℕ, zero, suc, ◌≤◌, Bool, true, false, cond, eqb, refl, arith, lit≤}
 use native.Mathlib.Nat.{one-le-mul}
 use borrow.Author.Tests.{eqb-false}
 use Rattle.ecode.specs.Load.{product_below, width, whole}

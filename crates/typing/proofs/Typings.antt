@@ -1,12 +1,11 @@
 -- The typing rule of a line by whole rows, as the code goes, and the rules at an address by its lines.
-use Rattle.std.proofs.Common.{◌≡◌, ℕ, ◌+◌, Bool, true, false, cond, not, ◌&&◌, ◌||◌, eqb, List, get_or, sym, refl, ap, ◌∙◌, ap₂}
+use Rattle.std.proofs.Common.{◌≡◌, ℕ, ◌+◌, Bool, true, false, not, ◌&&◌, ◌||◌, eqb, List, get_or, ap, ◌∙◌, ap₂}
 use Rattle.ecode.specs.Wiring.{all_below}
 use Rattle.ecode.specs.Instructions.{goes_on, names_address, target}
 use Rattle.ecode.specs.Typing.{allowed, next_cell, target_cell, flows, held, cell, cell_rule, line_rule, keeps_fewer, blank, well_typed}
 use Rattle.ecode.proofs.Lists.{all_and, all_or}
 use Rattle.ecode.specs.declared.code.Line.{Line}
 use Rattle.ecode.specs.declared.sheet.Sheet.{Sheet}
-use Rattle.ecode.specs.declared.code.Cell.{Cell}
 use Rattle.ecode.specs.declared.code.Instruction.{Instruction}
 
 -- the rule of a line, by whole rows

@@ -7,7 +7,7 @@ use Rattle.std.proofs.Common.{lit≤}
 use Rattle.ecode.specs.declared.port.PortKind.{PortKind}
 use Rattle.ecode.specs.declared.port.PortKind.TheVariants.{Sensor, Driver, Task}
 use Rattle.ecode.specs.declared.sheet.Sheet.{Sheet}
-use Rattle.ecode.specs.Wiring.{all_below, within, is_driver, is_task, not_driver, not_task, apart}
+use Rattle.ecode.specs.Wiring.{all_below, within, is_driver, is_task, not_driver, not_task}
 
 -- the kinds of the ports; from port 26 on they do not count
 abbrev pub kinds_table : List PortKind

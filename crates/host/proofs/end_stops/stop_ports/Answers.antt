@@ -1,4 +1,4 @@
-use Rattle.std.proofs.Common.{◌≡◌, ◌<◌, ◌≤◌, length, ◌∙◌, arith}
+use Rattle.std.proofs.Common.{◌<◌, ◌≤◌, length, ◌∙◌, arith}
 use Rattle.host.specs.Stopping.{stop_more, stop_none}
 use Rattle.host.proofs.end_stops.stop_ports.Goals as goal
 

@@ -2,7 +2,7 @@ use Rattle.std.proofs.Common.{◌≡◌, ℕ, ◌<◌, length, get_or, None}
 use Rattle.ecode.specs.Rules.{broken, each}
 use Rattle.ecode.specs.Image.{line, record_at}
 use Rattle.ecode.specs.Typing.{blank}
-use Rattle.ecode.specs.Verdict.{layout_rules, record_rules}
+use Rattle.ecode.specs.Verdict.{record_rules}
 use Rattle.image.proofs.listing.read_listing.Given as goal
 
 abbrev pub invariant-loop-a : goal.invariant-loop-a

@@ -1,4 +1,4 @@
-use Rattle.std.proofs.Common.{◌≡◌, ℕ, ◌<◌, ◌≤◌, Bool, true, false, cond, eqb, length, get_or, take, Some, None, sym, refl, ap, ◌∙◌, arith, length-set, length-take, get_or-take, ext_get_or}
+use Rattle.std.proofs.Common.{◌≡◌, ℕ, true, cond, eqb, length, get_or, take, Some, None, sym, refl, ap, ◌∙◌, arith, length-set, length-take, get_or-take, ext_get_or}
 use Rattle.std.proofs.lemmas.Bool.{cond-true, eq-eqb}
 use Rattle.ecode.specs.declared.fault.LoadFault.TheVariants.{Budget}
 use Rattle.ecode.specs.Rules.{broken, one, each}

@@ -1,9 +1,9 @@
-use Rattle.std.proofs.Common.{◌≡◌, ℕ, List, [], ◌∷◌, sym, subst, ap₂}
+use Rattle.std.proofs.Common.{ℕ, List, [], ◌∷◌, sym, subst, ap₂}
 use Rattle.std.proofs.lemmas.List.{take-replicate}
 use Rattle.ecode.specs.declared.code.Cell.{Cell}
 use Rattle.ecode.specs.declared.code.Instruction.TheVariants.{Return}
 use Rattle.ecode.specs.Verdict.{Contents}
-use Rattle.ecode.specs.Accepted.{Accepted, lone_return}
+use Rattle.ecode.specs.Accepted.{Accepted}
 use Rattle.loader.proofs.Lone.{lone_accepted}
 use Rattle.loader.proofs.first.first_program.Goals as goal
 

@@ -1,4 +1,4 @@
-use Rattle.std.proofs.Common.{◌≡◌, ℕ, zero, suc, ◌<◌, cond, ltb, length, get_or, sym, refl, ap, ◌∙◌, arith, length-set}
+use Rattle.std.proofs.Common.{◌<◌, cond, ltb, length, ap, ◌∙◌, arith, length-set}
 use Rattle.ecode.specs.declared.code.Cell.TheVariants.{NotHeld, Idle}
 use Rattle.ecode.proofs.Lists.{filled}
 use Rattle.loader.proofs.Lone.{idle_more}

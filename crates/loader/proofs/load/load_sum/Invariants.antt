@@ -1,4 +1,4 @@
-use Rattle.std.proofs.Common.{◌≡◌, ℕ, ◌+◌, ◌^◌, ◌≤◌, get_or, take, None}
+use Rattle.std.proofs.Common.{◌≡◌, ◌+◌, ◌^◌, ◌≤◌, get_or, take, None}
 use Rattle.ecode.specs.declared.fault.LoadFault.TheVariants.{Overload}
 use Rattle.ecode.specs.Rules.{broken, one, each}
 use Rattle.ecode.specs.Load.{window, fits}

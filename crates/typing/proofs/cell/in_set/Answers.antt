@@ -1,4 +1,4 @@
-use Rattle.std.proofs.Common.{◌≡◌, zero, ◌/◌, ◌%◌, ◌^◌, ◌<◌, ◌≤◌, false, eqb, sym, ap, ◌∙◌, arith}
+use Rattle.std.proofs.Common.{◌≡◌, zero, ◌/◌, ◌%◌, ◌^◌, ◌<◌, ◌≤◌, eqb, sym, ap, ◌∙◌, arith}
 use native.Mathlib.Nat.{div-eq_of_lt, pow-le-pow_right}
 use lib.Bits.{and_mask}
 use Rattle.std.proofs.lemmas.Bool.{le-ltb, ne_eqb}

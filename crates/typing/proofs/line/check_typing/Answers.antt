@@ -1,5 +1,4 @@
-use Rattle.std.proofs.Common.{◌≡◌, ℕ, cond, Some, None, sym, refl, ap, ◌∙◌, arith}
-use Rattle.ecode.specs.declared.fault.CodeFault.{CodeFault}
+use Rattle.std.proofs.Common.{ℕ, cond, Some, None, sym, ap, ◌∙◌}
 use Rattle.ecode.specs.declared.fault.CodeFault.TheVariants.{Typing}
 use Rattle.ecode.specs.Rules.{one}
 use Rattle.ecode.specs.Typing.{well_typed}

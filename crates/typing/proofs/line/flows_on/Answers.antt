@@ -1,4 +1,4 @@
-use Rattle.std.proofs.Common.{◌≡◌, sym, ap, ◌∙◌}
+use Rattle.std.proofs.Common.{ap, ◌∙◌}
 use Rattle.ecode.specs.Typing.{flows, cell}
 use Rattle.ecode.proofs.Lists.{all_cong, asked}
 use Rattle.typing.proofs.line.flows_on.Goals as goal

@@ -1,4 +1,4 @@
-use Rattle.std.proofs.Common.{◌≡◌, ℕ, sym, ap, ◌∙◌}
+use Rattle.std.proofs.Common.{ℕ, ap, ◌∙◌}
 use Rattle.ecode.specs.Typing.{allowed, flows, cell}
 use Rattle.ecode.proofs.Lists.{all_at, all_cong, asked}
 use Rattle.typing.proofs.line.flows_to_target.Goals as goal

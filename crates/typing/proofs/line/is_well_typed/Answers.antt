@@ -1,6 +1,6 @@
-use Rattle.std.proofs.Common.{◌≡◌, Bool, true, false, not, ◌&&◌, ◌||◌, eqb, sym, refl, ap, ◌∙◌, ap₂}
+use Rattle.std.proofs.Common.{not, ◌&&◌, ◌||◌, eqb, ap, ◌∙◌}
 use Rattle.ecode.specs.Wiring.{all_below}
-use Rattle.ecode.specs.Typing.{held, cell, line_rule}
+use Rattle.ecode.specs.Typing.{held, cell}
 use Rattle.ecode.specs.Verdict.{lines_of}
 use Rattle.typing.proofs.Typings.{typed_is}
 use Rattle.typing.proofs.line.is_well_typed.Goals as goal

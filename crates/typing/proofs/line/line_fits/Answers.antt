@@ -1,4 +1,4 @@
-use Rattle.std.proofs.Common.{◌≡◌, sym, ◌∙◌}
+use Rattle.std.proofs.Common.{sym, ◌∙◌}
 use Rattle.typing.proofs.Typings.{not_allowed, not_on, not_there, all_there}
 use Rattle.typing.proofs.line.line_fits.Goals as goal
 

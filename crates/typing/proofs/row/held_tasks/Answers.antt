@@ -1,7 +1,7 @@
-use Rattle.std.proofs.Common.{◌≡◌, ◌+◌, ◌*◌, ◌^◌, ◌<◌, ◌≤◌, true, false, length, get_or, take, sym, refl, ap, ◌∙◌, arith, take_all, rules}
+use Rattle.std.proofs.Common.{◌≡◌, ◌<◌, true, false, length, refl, ap, ◌∙◌, arith, take_all, rules}
 use Rattle.ecode.specs.declared.code.Cell.{Cell}
 use Rattle.ecode.specs.declared.code.Cell.TheVariants.{NotHeld}
-use Rattle.ecode.specs.Typing.{held, held_set}
+use Rattle.ecode.specs.Typing.{held_set}
 use Rattle.typing.proofs.Sets.{held_more}
 use Rattle.typing.proofs.row.held_tasks.Goals as goal
 use Rattle.typing.proofs.row.held_tasks.Goals.{then-is_held, else-is_held}

@@ -1,4 +1,4 @@
-use Rattle.std.proofs.Common.{◌≡◌, ◌^◌, ◌<◌, take}
+use Rattle.std.proofs.Common.{◌≡◌, take}
 use Rattle.ecode.specs.Typing.{held_set}
 use Rattle.typing.proofs.row.held_tasks.Given as goal
 

@@ -1,4 +1,4 @@
-use Rattle.std.proofs.Common.{◌≡◌, ℕ, ◌<◌, ◌≤◌, length, get_or, sym, refl, ap, ◌∙◌, arith, length-set, rules}
+use Rattle.std.proofs.Common.{◌≡◌, ◌<◌, length, get_or, refl, ap, ◌∙◌, arith, length-set, rules}
 use Rattle.ecode.specs.declared.code.Cell.TheVariants.{NotHeld}
 use Rattle.ecode.specs.Typing.{next_cell}
 use Rattle.ecode.proofs.Lists.{change_here, change_not}

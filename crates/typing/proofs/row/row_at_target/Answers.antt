@@ -1,7 +1,6 @@
-use Rattle.std.proofs.Common.{◌≡◌, ℕ, ◌<◌, ◌≤◌, true, length, get_or, sym, refl, ap, ◌∙◌, subst, arith, length-set, rules}
+use Rattle.std.proofs.Common.{◌≡◌, ◌<◌, true, length, get_or, refl, ap, ◌∙◌, arith, length-set, rules}
 use Rattle.ecode.specs.declared.code.Cell.TheVariants.{NotHeld}
 use Rattle.ecode.specs.Typing.{allowed, target_cell}
-use Rattle.ecode.specs.Parts.{Small}
 use Rattle.ecode.proofs.Lists.{change_here, change_not}
 use Rattle.typing.specs.Waits.{target_byte}
 use Rattle.typing.proofs.Waiting.{as_allowed}

@@ -1,4 +1,4 @@
-use Rattle.std.proofs.Common.{◌≡◌, ℕ, get_or, sym}
+use Rattle.std.proofs.Common.{ℕ, get_or, sym}
 use Rattle.ecode.specs.declared.code.Cell.TheVariants.{NotHeld}
 use Rattle.ecode.specs.Typing.{flows}
 use Rattle.ecode.proofs.Lists.{all_none, all_more, all_fails}
