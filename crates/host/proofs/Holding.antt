@@ -1,6 +1,6 @@
 -- What a layer of end stops does to the ports that a driver writes. Rests on the rules of the stops that are kept.
 use Rattle.std.proofs.Common.{◌≡◌, ℕ, ◌/◌, ◌%◌, ◌^◌, ◌<◌, Bool, true, false, cond, ◌≢◌, List, [], ◌∷◌, length, get_or, set, ℤ, pos, ◌≤ℤ◌, sym, refl, ap, ◌∙◌, subst, inl, inr, arith, length-set, get_or-set_other, get_or-set_same}
-use Rattle.std.specs.List.{AllByRecursion as All}
+use Rattle.std.specs.List.{AllByRecursion}
 use Rattle.std.proofs.lemmas.Int.{ints}
 use Rattle.std.proofs.lemmas.Bool.{eq-eqb, eqb-true, lt-ltb}
 use Rattle.ecode.specs.Wiring.{has}
@@ -63,9 +63,9 @@ module _ (written : ℕ) where
   all_named : (Q : Stop → ℤ → ℤ → Type 0) (ports : ℕ) (P : Stop → Type 0)
       → ((s : Stop) → P s → s.port < ports)
       → ((s : Stop) (v : ℤ) → P s → Q s v (held s.low s.high v))
-      → (ss : List Stop) (xs ys : List ℤ) → length xs ≡ ports → Once ss → All P ss
+      → (ss : List Stop) (xs ys : List ℤ) → length xs ≡ ports → Once ss → AllByRecursion P ss
       → ((p : ℕ) → Named p ss → reading xs p ≡ reading ys p)
-      → All (λ s. In s.port written → Q s (reading ys s.port) (reading (stop_all written ss xs) s.port)) ss
+      → AllByRecursion (λ s. In s.port written → Q s (reading ys s.port) (reading (stop_all written ss xs) s.port)) ss
   unfolding stop_all
   all_named Q ports P on q [] xs ys len once all same = tt
   all_named Q ports P on q (s ∷ ss) xs ys len once all same =
@@ -87,7 +87,7 @@ end_stops_hold m names d xs l h len =
     let below = m.drive d xs in
     let long : length below ≡ m.sheet.ports = (l.drives d h).keeps_length xs ∙ len in
     let held_all : (Q : Stop → ℤ → ℤ → Type 0) → ((s : Stop) (v : ℤ) → Proper m.sheet s → Q s v (held s.low s.high v))
-    → All (λ s. In s.port written → Q s (reading below s.port) (reading (stop_all written ss below) s.port)) ss =
+    → AllByRecursion (λ s. In s.port written → Q s (reading below s.port) (reading (stop_all written ss below) s.port)) ss =
     λ Q q. all_named written Q m.sheet.ports (Proper m.sheet) (λ s p. p.on_sheet) q ss below below long rules.once rules.proper (λ p _. refl) in
     subst (λ b. Stopping written ss below (cond b (stop_all written ss below) xs)) (sym (lt-ltb d m.sheet.drivers h)) (record {
       bounded = held_all (λ s v r. (s.low ≤ℤ r) × (r ≤ℤ s.high)) (λ s v p. (held_from_low s.low s.high v p.ordered, held_to_high s.low s.high v p.ordered));

@@ -1,7 +1,7 @@
 -- How a table comes to keep stops of the names given, and that those kept are as they should be. Rests on nothing else.
 use Rattle.std.proofs.Common.{◌≡◌, ℕ, ◌+◌, ◌<◌, ◌≤◌, Bool, true, false, cond, not, ◌&&◌, T, eqb, ltb, ◌⊎◌, List, [], ◌∷◌, ◌++◌, length, get_or, take, drop, set, sym, refl, ap, ◌∙◌, subst, inl, inr, arith, length-take}
 use lib.Signed.{le_z, le_z_yes}
-use Rattle.std.specs.List.{AllByRecursion as All}
+use Rattle.std.specs.List.{AllByRecursion}
 use Rattle.std.proofs.ByRecursion.{All-push, All-weaker}
 use Rattle.std.proofs.lemmas.List.{length_push, take_more_set, at_drop_more, at_drop_all}
 use Rattle.std.proofs.lemmas.Bool.{and_parts, and_from, and_left, and_cases, or_cases, or_parts, both_ways, cases_Bool, eqb-true, eqb-false, le-ltb, lt-ltb, ltb-true, ltb-false, not-true}
@@ -74,7 +74,7 @@ once_push [] s o n = ((λ m. m), tt)
 once_push (t ∷ ss) s o n =
     ((λ m. elim (named_parts t.port ss s m) [ inl h ↦ o.0 h | inr e ↦ n (inl (sym e)) ]), once_push ss s o.1 (λ m. n (inr m)))
 
-among_itself : (ns : List Stop) → All (Among ns) ns
+among_itself : (ns : List Stop) → AllByRecursion (Among ns) ns
 among_itself [] = tt
 among_itself (n ∷ ns) = (inl refl, All-weaker (Among ns) (Among (n ∷ ns)) (λ s h. inr h) ns (among_itself ns))
 
@@ -105,7 +105,7 @@ module _ (sheet : Sheet) where
   -- what each name keeps true of those kept
   record Good (ss : List Stop) : Type 0 where
     few : length ss ≤ 4
-    proper : All (Proper sheet) ss
+    proper : AllByRecursion (Proper sheet) ss
     once : Once ss
 
   good_step : (ss : List Stop) (n : Stop) (b : Bool) → (ltb (length ss) 4 && admissible sheet ss n) ≡ b → Good ss → Good (cond b (ss ++ (n ∷ [])) ss)
@@ -126,12 +126,12 @@ module _ (sheet : Sheet) where
   good (n ∷ names) ss g = good names (admitted sheet ss n) (good_step ss n (ltb (length ss) 4 && admissible sheet ss n) refl g)
 
   -- what holds of all names holds of those kept
-  kept_all : (P : Stop → Type 0) (names ss : List Stop) → All P ss → All P names → All P (admitted_all sheet ss names)
+  kept_all : (P : Stop → Type 0) (names ss : List Stop) → AllByRecursion P ss → AllByRecursion P names → AllByRecursion P (admitted_all sheet ss names)
   unfolding admitted_all
   kept_all P [] ss a h = a
   kept_all P (n ∷ names) ss a h = kept_all P names (admitted sheet ss n) (by (ltb (length ss) 4 && admissible sheet ss n)) h.1
     where
-      by : (b : Bool) → All P (cond b (ss ++ (n ∷ [])) ss)
+      by : (b : Bool) → AllByRecursion P (cond b (ss ++ (n ∷ [])) ss)
       by true = All-push P ss n a h.0
       by false = a
 
@@ -164,7 +164,7 @@ module _ (sheet : Sheet) where
         ]
   ]
 
-  passed : (names ss : List Stop) → Good ss → All (λ n. Proper sheet n → Named n.port (admitted_all sheet ss names) ⊎ (length (admitted_all sheet ss names) ≡ 4)) names
+  passed : (names ss : List Stop) → Good ss → AllByRecursion (λ n. Proper sheet n → Named n.port (admitted_all sheet ss names) ⊎ (length (admitted_all sheet ss names) ≡ 4)) names
   unfolding admitted_all
   passed [] ss g = tt
   passed (n ∷ names) ss g =

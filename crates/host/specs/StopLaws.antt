@@ -6,7 +6,7 @@
 --   Stopping         what they do: a driver's ports end within their bounds, at the nearer one or where they were
 --   EndStopsHold     a layer of kept stops does this over every lawful host
 use Rattle.std.specs.Prelude.{◌≡◌, ℕ, ◌<◌, ◌≤◌, ◌⊎◌, List, [], ◌∷◌, length, ℤ, ◌≤ℤ◌, slice_index}
-use Rattle.std.specs.List.{AllByRecursion as All}
+use Rattle.std.specs.List.{AllByRecursion}
 use Rattle.ecode.specs.declared.port.PortKind.TheVariants.{Driver}
 use Rattle.ecode.specs.declared.sheet.Sheet.{Sheet}
 use Rattle.ecode.specs.Sheets.{In, Port, kind}
@@ -38,21 +38,21 @@ pub record Proper (sheet : Sheet) (s : Stop) : Type 0 where
 -- ss are the stops kept of the names, for a sheet
 pub record KeptRules (sheet : Sheet) (names ss : List Stop) : Type 0 where
   pub few : length ss ≤ 4
-  pub given : All (Among names) ss
-  pub proper : All (Proper sheet) ss
+  pub given : AllByRecursion (Among names) ss
+  pub proper : AllByRecursion (Proper sheet) ss
   pub once : Once ss
   -- a proper name is passed over only where its port is kept, or four are
-  pub passed_over : All (λ n. Proper sheet n → Named n.port ss ⊎ (length ss ≡ 4)) names
+  pub passed_over : AllByRecursion (λ n. Proper sheet n → Named n.port ss ⊎ (length ss ≡ 4)) names
 
 -- below are the ports as the lower host's driver leaves them, above as the layer does
 pub record Stopping (written : ℕ) (ss : List Stop) (below above : List ℤ) : Type 0 where
   -- a port that is named and written ends within its bounds
-  pub bounded : All (λ s. In s.port written → (s.low ≤ℤ reading above s.port) × (reading above s.port ≤ℤ s.high)) ss
+  pub bounded : AllByRecursion (λ s. In s.port written → (s.low ≤ℤ reading above s.port) × (reading above s.port ≤ℤ s.high)) ss
   -- from below its low it ends there, and from above its high there
-  pub lowest : All (λ s. In s.port written → reading below s.port ≤ℤ s.low → reading above s.port ≡ s.low) ss
-  pub highest : All (λ s. In s.port written → s.high ≤ℤ reading below s.port → reading above s.port ≡ s.high) ss
+  pub lowest : AllByRecursion (λ s. In s.port written → reading below s.port ≤ℤ s.low → reading above s.port ≡ s.low) ss
+  pub highest : AllByRecursion (λ s. In s.port written → s.high ≤ℤ reading below s.port → reading above s.port ≡ s.high) ss
   -- from within its bounds it stays where it was
-  pub inside : All (λ s. In s.port written → s.low ≤ℤ reading below s.port → reading below s.port ≤ℤ s.high
+  pub inside : AllByRecursion (λ s. In s.port written → s.low ≤ℤ reading below s.port → reading below s.port ≤ℤ s.high
       → reading above s.port ≡ reading below s.port) ss
   -- and so does every port that is not written or not named
   pub others : (p : ℕ) → (In p written → Named p ss → ⊥) → reading above p ≡ reading below p

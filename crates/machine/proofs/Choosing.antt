@@ -2,7 +2,7 @@
 -- pending task, and by the earliest deadline one with the fewest ticks left.
 use Rattle.std.proofs.Common.{◌≡◌, ℕ, zero, suc, ◌<◌, ◌≤◌, Bool, true, false, [], ◌∷◌, ◌++◌, get_or, is_some, Some, None, Option, sym, refl, ap, ◌∙◌, subst, inl, inr, arith}
 use mathlib.Core.Bool.{false≢true}
-use Rattle.std.specs.List.{ContainsAt as Has, AllByRecursion as All}
+use Rattle.std.specs.List.{ContainsAt as Has, AllByRecursion}
 use Rattle.std.proofs.ByRecursion.{All-get_or, All-append, All-weaker, has_append_left, has_push}
 use Rattle.std.proofs.lemmas.Bool.{cases_lt, cases_Bool}
 use Rattle.policy.specs.declared.pending.PendingTask.{PendingTask}
@@ -34,14 +34,14 @@ told (suc n) f t k l e =
 abbrev Told : ℕ → Table → PendingTask → Type 0
 Told n f e = (e.task < n) × (k : Job) × (f e.task ≡ Some k) × (k.left ≡ e.left)
 
-only_told : (n : ℕ) (f : Table) → All (Told n f) (pending_tasks n f)
+only_told : (n : ℕ) (f : Table) → AllByRecursion (Told n f) (pending_tasks n f)
 only_told zero f = tt
 only_told (suc n) f =
     All-append (Told (suc n) f) (pending_tasks n f) (entry_of n (f n))
     (All-weaker (Told n f) (Told (suc n) f) (λ e h. (omega (arith, h.0), h.1, h.2, h.3)) (pending_tasks n f) (only_told n f))
     (last (f n) refl)
   where
-    last : (o : Option Job) → f n ≡ o → All (Told (suc n) f) (entry_of n o)
+    last : (o : Option Job) → f n ≡ o → AllByRecursion (Told (suc n) f) (entry_of n o)
     last None e = tt
     last (Some k) e = ((omega arith, k, e, refl), tt)
 

@@ -1,7 +1,7 @@
 -- A clock for each task counts its window down from the release, and a call that shares with the task ends it. Where calls come
 -- when the clock says so, windows are kept.
 use Rattle.std.proofs.Common.{◌≡◌, ℕ, zero, suc, ◌+◌, ◌-◌, ◌<◌, ◌≤◌, Bool, true, false, cond, ◌||◌, eqb, ◌⊎◌, List, [], ◌∷◌, ◌++◌, length, get_or, Some, None, Option, sym, refl, ap, ◌∙◌, subst, ⊎_elim, true≢false, arith}
-use Rattle.std.specs.List.{AllByRecursion as All}
+use Rattle.std.specs.List.{AllByRecursion}
 use Rattle.std.proofs.lemmas.Bool.{eq-eqb}
 use Rattle.ecode.specs.declared.sheet.Sheet.{Sheet}
 use Rattle.ecode.specs.declared.code.Instruction.{Instruction}
@@ -60,7 +60,7 @@ OnTime s t c (e ∷ log) = OnTime s t c log × Timely s t (clock_after s t c log
 abbrev pub Meets : Sheet → ℕ → ℕ → List (List Event) → Type 0
 Meets s t w [] = Unit {0}
 Meets s t zero (log ∷ later) = ⊥
-Meets s t (suc zero) (log ∷ later) = (some_shares s t log ≡ true) × All (λ e. shares_by s e.instruction t ≡ true → e.pending t ≡ false) log
+Meets s t (suc zero) (log ∷ later) = (some_shares s t log ≡ true) × AllByRecursion (λ e. shares_by s e.instruction t ≡ true → e.pending t ≡ false) log
 Meets s t (suc (suc w)) (log ∷ later) = (some_shares s t log ≡ false) × Meets s t (suc w) later
 
 clocked_keeps : (s : Sheet) (t : ℕ) (i : Instruction) (c : Option ℕ) → shares_by s i t ≡ false → releases i t ≡ false → clocked s t i c ≡ c
@@ -126,7 +126,7 @@ open_end s t d (x ∷ log) e o =
     go true v ih u = absurd (let z = o.1.again v in let w : ◌≡◌ {A = ℕ} 0 1 = cc in omega arith)
     go false v ih u = clocked_keeps s t x.instruction (clock_after s t (Some d) log) u v ∙ ih
 
-found_idle : (s : Sheet) (t : ℕ) (c : Option ℕ) (log : List Event) → OnTime s t c log → All (λ e. shares_by s e.instruction t ≡ true → e.pending t ≡ false) log
+found_idle : (s : Sheet) (t : ℕ) (c : Option ℕ) (log : List Event) → OnTime s t c log → AllByRecursion (λ e. shares_by s e.instruction t ≡ true → e.pending t ≡ false) log
 found_idle s t c [] o = tt
 found_idle s t c (x ∷ log) o = ((λ u. (o.1.met u).1), found_idle s t c log o.0)
 
@@ -163,7 +163,7 @@ meets_before s t (suc (suc w)) (log ∷ later) (suc k) m l n = meets_before s t 
 
 -- the tick at the end
 abbrev AtEnd : Sheet → ℕ → List Event → Type 0
-AtEnd s t log = (some_shares s t log ≡ true) × All (λ e. shares_by s e.instruction t ≡ true → e.pending t ≡ false) log
+AtEnd s t log = (some_shares s t log ≡ true) × AllByRecursion (λ e. shares_by s e.instruction t ≡ true → e.pending t ≡ false) log
 
 meets_end : (s : Sheet) (t w : ℕ) (later : List (List Event)) → Meets s t (suc w) later → w < length later → AtEnd s t (get_or later w [])
 meets_end s t w [] m l = absurd (omega arith)
@@ -181,7 +181,7 @@ first_kept s t (suc w) log later since pos none m = record {
   at_end = λ o. (let z : 0 + suc w ≡ suc w = omega arith in
       subst (λ (j : ℕ). some_shares s t (get_or (log ∷ later) j []) ≡ true) (sym z) (meets_end s t w later m (omega arith)).0);
   ended = λ o. (let z : 0 + suc w ≡ suc w = omega arith in
-      subst (λ (j : ℕ). All (λ e. shares_by s e.instruction t ≡ true → e.pending t ≡ false) (get_or (log ∷ later) j [])) (sym z) (meets_end s t w later m (omega arith)).1);
+      subst (λ (j : ℕ). AllByRecursion (λ e. shares_by s e.instruction t ≡ true → e.pending t ≡ false) (get_or (log ∷ later) j [])) (sym z) (meets_end s t w later m (omega arith)).1);
 }
 
 -- a release in a later one
@@ -193,7 +193,7 @@ later_kept s t w log later i since r = record {
   at_end = λ o. (let z : suc i + w ≡ suc (i + w) = omega arith in
       subst (λ (j : ℕ). some_shares s t (get_or (log ∷ later) j []) ≡ true) (sym z) (r.at_end (omega arith)));
   ended = λ o. (let z : suc i + w ≡ suc (i + w) = omega arith in
-      subst (λ (j : ℕ). All (λ e. shares_by s e.instruction t ≡ true → e.pending t ≡ false) (get_or (log ∷ later) j [])) (sym z) (r.ended (omega arith)));
+      subst (λ (j : ℕ). AllByRecursion (λ e. shares_by s e.instruction t ≡ true → e.pending t ≡ false) (get_or (log ∷ later) j [])) (sym z) (r.ended (omega arith)));
 }
 
 -- a task that an event releases is one of the sheet

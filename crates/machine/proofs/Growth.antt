@@ -1,6 +1,6 @@
 -- Nothing in a run grows: one invariant on the state, which instructions, ticks and ends of tasks keep.
 use Rattle.std.proofs.Common.{◌≡◌, ℕ, zero, suc, ◌+◌, ◌-◌, ◌*◌, ◌<◌, ◌≤◌, Bool, true, false, cond, ◌&&◌, eqb, ◌⊎◌, List, [], ◌∷◌, map, length, get_or, ℤ, is_some, Some, None, Option, sym, refl, ap, ◌∙◌, subst, inl, inr, arith}
-use Rattle.std.specs.List.{AllByRecursion as All}
+use Rattle.std.specs.List.{AllByRecursion}
 use Rattle.std.proofs.ByRecursion.{All-push, All-weaker, All-map}
 use Rattle.std.proofs.lemmas.Bool.{eqb-true, eq-eqb, leb-false}
 use Rattle.ecode.specs.declared.code.Instruction.{Instruction}
@@ -50,21 +50,21 @@ Under p f = (t : ℕ) (k : Job) → f t ≡ Some k → k.used < budget p t
 -- within a tick
 record Inside (m : Meaning) (p : Contents) (s : State) : Type 0 where
   ports : length s.ports ≡ m.sheet.ports
-  queue : All (Fits p) s.queue
+  queue : AllByRecursion (Fits p) s.queue
   jobs : Jobs m p s.pending
   under : Under p s.pending
   stop : (x : Stop) → s.stop ≡ Some x → StopFits m p x
-  log : All (λ e. e.at < size p) s.log
+  log : AllByRecursion (λ e. e.at < size p) s.log
 
 -- between calls
 pub record Small (m : Meaning) (p : Contents) (s : State) : Type 0 where
   pub ports : length s.ports ≡ m.sheet.ports
-  pub queue : All (Fits p) s.queue
+  pub queue : AllByRecursion (Fits p) s.queue
   pub jobs : Jobs m p s.pending
   pub under : s.stop ≡ None → Under p s.pending
   pub running : (i : ℕ) → s.running ≡ Some i → (i < m.sheet.tasks) × (is_pending s.pending i ≡ true)
   pub stop : (x : Stop) → s.stop ≡ Some x → StopFits m p x
-  pub log : All (λ e. e.at < size p) s.log
+  pub log : AllByRecursion (λ e. e.at < size p) s.log
 
 no_stop : {A : Type 0} (x : Stop) → ◌≡◌ {A = Option Stop} None (Some x) → A
 no_stop x e = absurd (let z : ◌≡◌ {A = ℕ} 0 1 = cc in omega arith)
@@ -87,7 +87,7 @@ module _ (m : Meaning) (p : Contents) (ok : Lawful m) (ty : Formed m.sheet p) (t
   ports_fit (Jump a) v e = e
   ports_fit Return v e = e
 
-  queue_fits : (i : Instruction) (a : ℕ) (q : List Binding) → Ranged m.sheet i → Aimed (size p) a i → All (Fits p) q → All (Fits p) (queue_after i q)
+  queue_fits : (i : Instruction) (a : ℕ) (q : List Binding) → Ranged m.sheet i → Aimed (size p) a i → AllByRecursion (Fits p) q → AllByRecursion (Fits p) (queue_after i q)
   queue_fits (Call d) a q r e s = s
   queue_fits (Release t w) a q r e s = s
   queue_fits (Future x y k) a q r e s = All-push (Fits p) q (record { wait = x; at = y }) s (r.0.1, e.1)
@@ -226,7 +226,7 @@ module _ (m : Meaning) (p : Contents) (ok : Lawful m) (ty : Formed m.sheet p) (t
       go None s = λ k e. absurd (let z : ◌≡◌ {A = ℕ} 0 1 = cc in omega arith)
       go (Some j) s = same_job (λ t k. k.used < budget p t) t (record { left = j.left - 1; used = j.used; taken = j.taken }) (s j refl)
 
-  queue_falls : (q : List Binding) → All (Fits p) q → All (Fits p) (map one_less_wait q)
+  queue_falls : (q : List Binding) → AllByRecursion (Fits p) q → AllByRecursion (Fits p) (map one_less_wait q)
   queue_falls q s = All-map (Fits p) one_less_wait q (All-weaker (Fits p) (λ b. Fits p (one_less_wait b)) (λ b h. (omega (arith, h.0), h.1)) q s)
 
   exhausted_is : (f : Table) (r : Option ℕ) (x : ℕ) → exhausted (budget p) f r ≡ Some x → r ≡ Some x
@@ -411,7 +411,7 @@ module _ (m : Meaning) (p : Contents) (ok : Lawful m) (ty : Formed m.sheet p) (t
   calls_fit mark (AskPort x ∷ calls) s i fair = calls_fit mark calls s i fair.1
 
 -- the log in a state is that of one of the ticks, or of the begin
-last_log : (m : Meaning) (p : Contents) (P : List Event → Type 0) (calls : List RunCall) (s : State) → P s.log → All P (ticks_of m p calls s) → P (after m p calls s).log
+last_log : (m : Meaning) (p : Contents) (P : List Event → Type 0) (calls : List RunCall) (s : State) → P s.log → AllByRecursion P (ticks_of m p calls s) → P (after m p calls s).log
 last_log m p P [] s l a = l
 last_log m p P (Tick r c ∷ calls) s l a = on s.stop (counts m r) a (λ s'. last_log m p P calls s')
   where
@@ -419,8 +419,8 @@ last_log m p P (Tick r c ∷ calls) s l a = on s.stop (counts m r) a (λ s'. las
     Gone x k = if_going x (cond k (tick m p r c s) s) s
 
     on : (x : Option Stop) (k : Bool) →
-        All P (if_going x (cond k ((Gone x k).log ∷ ticks_of m p calls (Gone x k)) (ticks_of m p calls (Gone x k))) (ticks_of m p calls (Gone x k))) →
-        ((s' : State) → P s'.log → All P (ticks_of m p calls s') → P (after m p calls s').log) → P (after m p calls (Gone x k)).log
+        AllByRecursion P (if_going x (cond k ((Gone x k).log ∷ ticks_of m p calls (Gone x k)) (ticks_of m p calls (Gone x k))) (ticks_of m p calls (Gone x k))) →
+        ((s' : State) → P s'.log → AllByRecursion P (ticks_of m p calls s') → P (after m p calls s').log) → P (after m p calls (Gone x k)).log
     on (Some x) k a ih = ih s l a
     on None false a ih = ih s l a
     on None true a ih = ih (tick m p r c s) a.0 a.1
@@ -475,9 +475,9 @@ grows mark m p v calls b fair =
       running = λ n e. (i.running n e).1;
       stop = λ x e. (let k = i.stop x e in (fifteen_at_most x.number k.0, k.1, k.2));
       log = last_log m p (λ log. length log ≤ m.sheet.tasks * size p) calls (fresh p v) (omega arith) w.instructions;
-      events = both s.log i.log (last_log m p (All (λ e. e.waiting ≤ m.sheet.tasks)) calls (fresh p v) tt w.waiting);
+      events = both s.log i.log (last_log m p (AllByRecursion (λ e. e.waiting ≤ m.sheet.tasks)) calls (fresh p v) tt w.waiting);
     }
   where
-    both : (log : List Event) → All (λ e. e.at < size p) log → All (λ e. e.waiting ≤ m.sheet.tasks) log → All (λ e. (e.at < size p) × (e.waiting ≤ m.sheet.tasks)) log
+    both : (log : List Event) → AllByRecursion (λ e. e.at < size p) log → AllByRecursion (λ e. e.waiting ≤ m.sheet.tasks) log → AllByRecursion (λ e. (e.at < size p) × (e.waiting ≤ m.sheet.tasks)) log
     both [] x y = tt
     both (e ∷ log) x y = ((x.0, y.0), both log x.1 y.1)

@@ -1,7 +1,7 @@
 -- Sums over the waiting bindings: how many hold a task, have it released, and the ticks to its deadline. Where each holds a task
 -- and none is held twice, they are no more than the tasks. A tick brings every deadline one nearer.
 use Rattle.std.proofs.Common.{◌≡◌, ℕ, ◌+◌, ◌-◌, ◌<◌, ◌≤◌, Bool, true, false, cond, eqb, List, [], ◌∷◌, ◌++◌, map, length, Some, None, Option, refl, arith}
-use Rattle.std.specs.List.{AllByRecursion as All}
+use Rattle.std.specs.List.{AllByRecursion}
 use Rattle.std.proofs.lemmas.Bool.{eqb-true}
 use Rattle.ecode.specs.declared.code.Cell.{Cell}
 use Rattle.ecode.specs.declared.code.Cell.TheVariants.{NotHeld, Idle, Released}
@@ -62,11 +62,11 @@ module _ (p : Contents) (t : ℕ) where
   abbrev pub due_ticks : List Binding → ℕ
   due_ticks q = over_queue (λ b. due_in b.wait (cell_at p b.at t)) q
 
-pub all_left : (P : Binding → Type 0) (l r : List Binding) → All P (l ++ r) → All P l
+pub all_left : (P : Binding → Type 0) (l r : List Binding) → AllByRecursion P (l ++ r) → AllByRecursion P l
 all_left P [] r x = tt
 all_left P (b ∷ l) r x = (x.0, all_left P l r x.1)
 
-pub all_right : (P : Binding → Type 0) (l r : List Binding) → All P (l ++ r) → All P r
+pub all_right : (P : Binding → Type 0) (l r : List Binding) → AllByRecursion P (l ++ r) → AllByRecursion P r
 all_right P [] r x = x
 all_right P (b ∷ l) r x = all_right P l r x.1
 
@@ -75,13 +75,13 @@ pub record Placed (p : Contents) (n : ℕ) (b : Binding) : Type 0 where
   pub inside : b.at < size p
   pub some : 1 ≤ sum_below n (λ t. held_count (cell_at p b.at t))
 
-pub held_all : (p : Contents) (n : ℕ) (q : List Binding) → All (Placed p n) q → length q ≤ sum_below n (λ t. held_in p t q)
+pub held_all : (p : Contents) (n : ℕ) (q : List Binding) → AllByRecursion (Placed p n) q → length q ≤ sum_below n (λ t. held_in p t q)
 held_all p n [] a = omega arith
 held_all p n (b ∷ q) a =
     omega (arith, held_all p n q a.1, a.0.some, sum_add n (λ t. held_count (cell_at p b.at t)) (λ t. held_in p t q))
 
 -- each waiting binding holds some task, and none is held twice: they are no more than the tasks
-pub queue_small : (p : Contents) (n : ℕ) (q : List Binding) → All (Placed p n) q → ((t : ℕ) → t < n → held_in p t q ≤ 1) → length q ≤ n
+pub queue_small : (p : Contents) (n : ℕ) (q : List Binding) → AllByRecursion (Placed p n) q → ((t : ℕ) → t < n → held_in p t q ≤ 1) → length q ≤ n
 queue_small p n q a one = omega (arith, held_all p n q a, sum_ones n (λ t. held_in p t q) one)
 
 pub released_low : (p : Contents) (t : ℕ) (q : List Binding) → released_in p t q ≤ held_in p t q
@@ -139,7 +139,7 @@ waits : (b : Binding) (z : ℕ) → cond (eqb b.wait 0) 1 0 + z ≡ 0 → (1 ≤
 waits b z e = grind arith
 
 -- where none is due, every binding waits
-pub all_wait : (q : List Binding) → due_count q ≡ 0 → All (λ b. 1 ≤ b.wait) q
+pub all_wait : (q : List Binding) → due_count q ≡ 0 → AllByRecursion (λ b. 1 ≤ b.wait) q
 all_wait [] e = tt
 all_wait (b ∷ q) e = let w = waits b (due_count q) e in (w.0, all_wait q w.1)
 
@@ -174,6 +174,6 @@ due_ticks_left p t (b ∷ q) z o =
     go Idle l e ih = omega (arith, ih (omega arith))
     go (Released c r) l e ih = omega arith
 
-pub all_fall : (p : Contents) (n : ℕ) (q : List Binding) → All (Placed p n) q → All (Placed p n) (fall q)
+pub all_fall : (p : Contents) (n : ℕ) (q : List Binding) → AllByRecursion (Placed p n) q → AllByRecursion (Placed p n) (fall q)
 all_fall p n [] a = tt
 all_fall p n (b ∷ q) a = (record { inside = a.0.inside; some = a.0.some }, all_fall p n q a.1)

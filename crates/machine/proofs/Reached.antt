@@ -1,7 +1,7 @@
 -- What the code of a run rests on, of every state that a list of calls comes to.
 use Rattle.std.proofs.Common.{◌≡◌, ℕ, zero, suc, ◌<◌, ◌≤◌, Bool, true, false, cond, List, [], ◌∷◌, ◌++◌, length, take, ℤ, is_some, Some, None, Err, Option, refl, ap, subst, arith}
 use mathlib.Core.Bool.{false≢true}
-use Rattle.std.specs.List.{AllByRecursion as All}
+use Rattle.std.specs.List.{AllByRecursion}
 use Rattle.std.proofs.ByRecursion.{All-weaker}
 use Rattle.ecode.specs.Verdict.{Contents}
 use Rattle.host.specs.Meaning.{Meaning}
@@ -108,11 +108,11 @@ pub record Busy (m : Meaning) (p : Contents) (s : State) (i : ℕ) : Type 0 wher
 -- what a call on a run that has not stopped rests on
 pub record Steady (m : Meaning) (p : Contents) (s : State) : Type 0 where
   -- with any readings, however many, no instruction of the next tick leaves more than 8 bindings
-  pub room : (readings : List ℤ) (choice : Option ℕ) → All (λ e. e.waiting ≤ 8) (tick m p readings choice s).log
+  pub room : (readings : List ℤ) (choice : Option ℕ) → AllByRecursion (λ e. e.waiting ≤ 8) (tick m p readings choice s).log
   -- at most 8 bindings wait, each at an address of the program and for a later tick
   pub few : length s.queue ≤ 8
-  pub inside : All (λ b. b.at < size p) s.queue
-  pub waits : All (λ b. 1 ≤ b.wait) s.queue
+  pub inside : AllByRecursion (λ b. b.at < size p) s.queue
+  pub waits : AllByRecursion (λ b. 1 ≤ b.wait) s.queue
   -- only tasks of the sheet are pending, and there are as many ports as it has
   pub below : (t : ℕ) (k : Job) → s.pending t ≡ Some k → t < m.sheet.tasks
   pub long : length s.ports ≡ m.sheet.ports

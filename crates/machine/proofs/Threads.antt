@@ -1,7 +1,7 @@
 -- A thread keeps what the rows say of all tasks, and under the earliest deadline it touches nothing.
 use Rattle.std.proofs.Common.{◌≡◌, ℕ, zero, suc, ◌+◌, ◌-◌, ◌<◌, ◌≤◌, Bool, true, false, cond, ◌&&◌, eqb, ◌⊎◌, List, [], ◌∷◌, length, Some, None, Option, refl, subst, inl, inr, arith}
 use mathlib.Core.Bool.{false≢true}
-use Rattle.std.specs.List.{AllByRecursion as All}
+use Rattle.std.specs.List.{AllByRecursion}
 use Rattle.std.proofs.ByRecursion.{All-append}
 use Rattle.std.proofs.lemmas.Bool.{and_parts, ne_eqb}
 use Rattle.ecode.specs.declared.code.Cell.{Cell}
@@ -63,7 +63,7 @@ module _ (h : Meaning) (p : Contents) (K : ℕ) (rate : ℕ → ℕ) (mark : Boo
   -- under an earliest choice, what is owed is covered
   pub record Sound (cur : ℕ → Cell) (q : List Binding) (f : Table) : Type 0 where
     pub tasks : (t : ℕ) → t < h.sheet.tasks → TaskSound (budget p t) (cur t) (held_in p t q) (released_in p t q) (due_ticks p t q) (f t)
-    pub binds : All (Placed p h.sheet.tasks) q
+    pub binds : AllByRecursion (Placed p h.sheet.tasks) q
     pub cover : mark ≡ true → Covered h.sheet.tasks K rate (λ t. due_in 0 (cur t) + due_ticks p t q) (λ t. owed (budget p t) (f t))
 
   module _ (pos : 1 ≤ K) (ty : Formed h.sheet p) (wide : (a : ℕ) → a < size p → Wide K rate p (instruction_at p a)) where
@@ -130,7 +130,7 @@ module _ (h : Meaning) (p : Contents) (K : ℕ) (rate : ℕ → ℕ) (mark : Boo
     placed : (i : Instruction) (a : ℕ) (q : List Binding) →
         ((t : ℕ) → t < h.sheet.tasks → Typed h.sheet i t (cell_at p a t) (cell_at p (a + 1) t) (cell_at p (target i) t)) →
         Parts h.sheet.tasks (cell_at p a) i → Aimed (size p) a i →
-        All (Placed p h.sheet.tasks) q → All (Placed p h.sheet.tasks) (queue_after i q)
+        AllByRecursion (Placed p h.sheet.tasks) q → AllByRecursion (Placed p h.sheet.tasks) (queue_after i q)
     placed (Call d) a q rule leave shape s = s
     placed (Release x w) a q rule leave shape s = s
     placed (If c y) a q rule leave shape s = s
@@ -174,13 +174,13 @@ module _ (h : Meaning) (p : Contents) (K : ℕ) (rate : ℕ → ℕ) (mark : Boo
       pub sound : Sound cur s.queue s.pending
       pub clocks : (t : ℕ) → t < h.sheet.tasks → Match h p K rate t (clock_after h.sheet t (c0 t) s.log) (cur t) s.queue
       pub ontime : (t : ℕ) → t < h.sheet.tasks → OnTime h.sheet t (c0 t) s.log
-      pub small : All (λ e. e.waiting ≤ h.sheet.tasks) s.log
+      pub small : AllByRecursion (λ e. e.waiting ≤ h.sheet.tasks) s.log
 
     -- stopped, which an earliest choice rules out
     pub record Halted (s : State) : Type 0 where
       pub unmarked : mark ≡ true → ⊥
       pub few : length s.queue ≤ h.sheet.tasks
-      pub small : All (λ e. e.waiting ≤ h.sheet.tasks) s.log
+      pub small : AllByRecursion (λ e. e.waiting ≤ h.sheet.tasks) s.log
       pub halt : s.stop ≡ None → ⊥
 
     abbrev pub Ran : ℕ → (ℕ → Option ℕ) → State → Type 0

@@ -2,7 +2,7 @@
 -- and the end of a task.
 use Rattle.std.proofs.Common.{◌≡◌, ℕ, zero, suc, ◌+◌, ◌-◌, ◌<◌, ◌≤◌, Bool, true, false, cond, eqb, ◌⊎◌, List, [], ◌∷◌, ◌++◌, length, ℤ, is_some, Some, None, Option, sym, refl, ap, ◌∙◌, subst, inl, inr, ⊎_elim, true≢false, arith}
 use mathlib.Core.Bool.{false≢true}
-use Rattle.std.specs.List.{AllByRecursion as All}
+use Rattle.std.specs.List.{AllByRecursion}
 use Rattle.std.proofs.ByRecursion.{All-append}
 use Rattle.std.proofs.lemmas.Bool.{eqb-true, eq-eqb, leb-true, leb-false}
 use Rattle.ecode.specs.declared.code.Cell.{Cell}
@@ -36,12 +36,12 @@ split_sum f q d s =
     let b : over_queue f d.others ≡ over_queue f (s.l ++ s.r) = ap (over_queue f) s.rest in
     omega (arith, over_append f s.l (due_at d.address ∷ s.r), over_append f s.l s.r)
 
-pub split_all : (P : Binding → Type 0) (q : List Binding) (d : Due) → Split q d → All P q → P (due_at d.address) × All P d.others
+pub split_all : (P : Binding → Type 0) (q : List Binding) (d : Due) → Split q d → AllByRecursion P q → P (due_at d.address) × AllByRecursion P d.others
 split_all P q d s a =
-    let b : All P (s.l ++ (due_at d.address ∷ s.r)) = subst (All P) s.was a in
+    let b : AllByRecursion P (s.l ++ (due_at d.address ∷ s.r)) = subst (AllByRecursion P) s.was a in
     let r = all_right P s.l (due_at d.address ∷ s.r) b in
     let l = all_left P s.l (due_at d.address ∷ s.r) b in
-    (r.0, subst (All P) (sym s.rest) (All-append P s.l s.r l r.1))
+    (r.0, subst (AllByRecursion P) (sym s.rest) (All-append P s.l s.r l r.1))
 
 cover_same : (n K : ℕ) (rate left rem left' rem' : ℕ → ℕ) → ((t : ℕ) → t < n → left' t ≡ left t) → ((t : ℕ) → t < n → rem' t ≤ rem t) →
     Covered n K rate left rem → Covered n K rate left' rem'
@@ -141,7 +141,7 @@ module _ (h : Meaning) (p : Contents) (K : ℕ) (rate : ℕ → ℕ) (mark : Boo
     pub going : s.stop ≡ None
     pub rest : due_count s.queue ≡ 0
     pub tasks : (t : ℕ) → t < h.sheet.tasks → TaskSound (budget p t) NotHeld (held_in p t s.queue) (released_in p t s.queue) (due_ticks p t s.queue) (s.pending t)
-    pub binds : All (Placed p h.sheet.tasks) s.queue
+    pub binds : AllByRecursion (Placed p h.sheet.tasks) s.queue
     pub runs : mark ≡ true → Runs s.pending s.running
     pub cover : mark ≡ true → Cover s.queue s.pending s.running
     pub clocks : (t : ℕ) → t < h.sheet.tasks → Match h p K rate t (c t) NotHeld s.queue
@@ -258,13 +258,13 @@ module _ (h : Meaning) (p : Contents) (K : ℕ) (rate : ℕ → ℕ) (mark : Boo
     pub halt : s.stop ≡ None → ⊥
     pub used_up : mark ≡ true → UsedUp s
     pub few : length s.queue ≤ h.sheet.tasks
-    pub small : All (λ e. e.waiting ≤ h.sheet.tasks) s.log
+    pub small : AllByRecursion (λ e. e.waiting ≤ h.sheet.tasks) s.log
 
   -- a tick that did not stop, the clocks c before it
   pub record Ticked (c : ℕ → Option ℕ) (s : State) : Type 0 where
     pub ready : Ready (λ t. clock_after h.sheet t (one_tick_less (c t)) s.log) s
     pub ontime : (t : ℕ) → t < h.sheet.tasks → OnTime h.sheet t (one_tick_less (c t)) s.log
-    pub small : All (λ e. e.waiting ≤ h.sheet.tasks) s.log
+    pub small : AllByRecursion (λ e. e.waiting ≤ h.sheet.tasks) s.log
 
   owed_none : (b : ℕ) (o : Option Job) → is_some o ≡ false → owed b o ≡ 0
   owed_none b None e = refl

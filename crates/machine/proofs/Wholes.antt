@@ -2,7 +2,7 @@
 -- earliest deadline.
 use Rattle.std.proofs.Common.{◌≡◌, ℕ, zero, suc, ◌+◌, ◌*◌, ◌<◌, ◌≤◌, Bool, true, false, cond, ◌⊎◌, List, [], ◌∷◌, length, get_or, ℤ, Some, None, Option, sym, refl, ap, ◌∙◌, subst, inl, inr, ⊎_elim, mul-le-mul_right, arith}
 use mathlib.Core.Bool.{false≢true}
-use Rattle.std.specs.List.{AllByRecursion as All}
+use Rattle.std.specs.List.{AllByRecursion}
 use Rattle.std.proofs.lemmas.Bool.{cases_lt, eqb-true}
 use Rattle.std.proofs.lemmas.List.{get_or_past}
 use Rattle.ecode.specs.declared.code.Instruction.{Instruction}
@@ -115,7 +115,7 @@ module _ (h : Meaning) (p : Contents) (v : Ports) (mark : Bool) (b : Begins h p 
   Steady c s = Ready h p K rate mark some_slot ty wide c s
 
   -- whatever the next tick reads and chooses, none of its instructions leaves more bindings than tasks
-  next_small : (c : ℕ → Option ℕ) (s : State) → mark ≡ false → Steady c s → (rd : List ℤ) (ch : Option ℕ) → All (λ e. e.waiting ≤ h.sheet.tasks) (tick h p rd ch s).log
+  next_small : (c : ℕ → Option ℕ) (s : State) → mark ≡ false → Steady c s → (rd : List ℤ) (ch : Option ℕ) → AllByRecursion (λ e. e.waiting ≤ h.sheet.tasks) (tick h p rd ch s).log
   next_small c s e r rd ch =
       ⊎_elim (λ (k : Ticked h p K rate mark some_slot ty wide c (tick h p rd ch s)). k.small) (λ (k : Over h p K rate mark some_slot ty wide (tick h p rd ch s)). k.small)
       (tick_ran h p K rate mark some_slot ty wide c s rd ch load r (λ m. absurd (false≢true (sym e ∙ m))))
@@ -123,8 +123,8 @@ module _ (h : Meaning) (p : Contents) (v : Ports) (mark : Bool) (b : Begins h p 
   -- what a run to the state e by these ticks keeps to, with the clocks c at its start and no budget used up
   record Keeps (c : ℕ → Option ℕ) (used : Type 0) (e : State) (ticks : List (List Event)) : Type 0 where
     bindings : length e.queue ≤ h.sheet.tasks
-    instructions : All (λ log. length log ≤ h.sheet.tasks * size p) ticks
-    waiting : All (λ log. All (λ e. e.waiting ≤ h.sheet.tasks) log) ticks
+    instructions : AllByRecursion (λ log. length log ≤ h.sheet.tasks * size p) ticks
+    waiting : AllByRecursion (λ log. AllByRecursion (λ e. e.waiting ≤ h.sheet.tasks) log) ticks
     ready : e.stop ≡ None → (c' : ℕ → Option ℕ) × Steady c' e
     timely : mark ≡ true → used → (e.stop ≡ None) × ((t : ℕ) → t < h.sheet.tasks → Clocked h.sheet t (c t) ticks)
 
@@ -151,8 +151,8 @@ module _ (h : Meaning) (p : Contents) (v : Ports) (mark : Bool) (b : Begins h p 
       let st = run_halts h p calls s k.halt in
       record {
         bindings = subst (λ (e : State). length e.queue ≤ h.sheet.tasks) (sym st.0) k.few;
-        instructions = (long, subst (All (λ log. length log ≤ h.sheet.tasks * size p)) (sym st.1) tt);
-        waiting = (k.small, subst (All (λ log. All (λ e. e.waiting ≤ h.sheet.tasks) log)) (sym st.1) tt);
+        instructions = (long, subst (AllByRecursion (λ log. length log ≤ h.sheet.tasks * size p)) (sym st.1) tt);
+        waiting = (k.small, subst (AllByRecursion (λ log. AllByRecursion (λ e. e.waiting ≤ h.sheet.tasks) log)) (sym st.1) tt);
         ready = λ g. absurd (k.halt (sym (ap (λ (e : State). e.stop) st.0) ∙ g));
         timely = λ m u. absurd (let w = k.used_up m in omega (arith, under calls u w.0 w.1 w.2 w.3, w.4));
       }
@@ -242,7 +242,7 @@ work m p v calls b =
 
 -- so it is of the tick after any calls, with any number of readings
 pub next_waiting : (m : Meaning) (p : Contents) (v : Ports) (calls : List RunCall) → Begins m p v → (after m p calls (fresh p v)).stop ≡ None →
-    (readings : List ℤ) (choice : Option ℕ) → All (λ e. e.waiting ≤ m.sheet.tasks) (tick m p readings choice (after m p calls (fresh p v))).log
+    (readings : List ℤ) (choice : Option ℕ) → AllByRecursion (λ e. e.waiting ≤ m.sheet.tasks) (tick m p readings choice (after m p calls (fresh p v))).log
 next_waiting m p v calls b g readings choice =
     let r = (from_fresh m p v false b calls (λ e. absurd (false≢true e))).ready g in
     next_small m p v false b r.0 (after m p calls (fresh p v)) refl r.1 readings choice

@@ -2,7 +2,7 @@
 --   WithinBounds    every number in a state is within bounds that the program and the sheet alone give
 --   NothingGrows    so it is in every state that a run comes to
 use Rattle.std.specs.Prelude.{◌≡◌, ℕ, ◌*◌, ◌<◌, ◌≤◌, Bool, true, List, length, Some}
-use Rattle.std.specs.List.{AllByRecursion as All}
+use Rattle.std.specs.List.{AllByRecursion}
 use Rattle.ecode.specs.Verdict.{Contents}
 use Rattle.host.specs.Meaning.{Meaning}
 use Rattle.machine.specs.declared.stop.Stop.{Stop}
@@ -16,8 +16,8 @@ pub record WithinBounds (m : Meaning) (p : Contents) (s : State) : Type 0 where
   pub ports : length s.ports ≡ m.sheet.ports
   -- at most as many bindings as tasks; a wait is at most 240 ticks, an address is one of the program's
   pub bindings : length s.queue ≤ m.sheet.tasks
-  pub waits : All (λ b. b.wait ≤ 240) s.queue
-  pub addresses : All (λ b. b.at < size p) s.queue
+  pub waits : AllByRecursion (λ b. b.wait ≤ 240) s.queue
+  pub addresses : AllByRecursion (λ b. b.at < size p) s.queue
   -- only tasks of the sheet are pending, with at most 240 ticks left and 240 slots used
   pub tasks : (t : ℕ) (k : Job) → s.pending t ≡ Some k → t < m.sheet.tasks
   pub left : (t : ℕ) (k : Job) → s.pending t ≡ Some k → k.left ≤ 240
@@ -29,7 +29,7 @@ pub record WithinBounds (m : Meaning) (p : Contents) (s : State) : Type 0 where
   pub stop : (x : Stop) → s.stop ≡ Some x → (x.number ≤ 15) × (x.task < m.sheet.tasks) × (x.address < size p)
   -- the log of the last tick has at most as many events as tasks times the length of the program
   pub log : length s.log ≤ m.sheet.tasks * size p
-  pub events : All (λ e. (e.at < size p) × (e.waiting ≤ m.sheet.tasks)) s.log
+  pub events : AllByRecursion (λ e. (e.at < size p) × (e.waiting ≤ m.sheet.tasks)) s.log
 
 -- for every list of calls with choices that a policy may make, marked or not
 abbrev pub NothingGrows : Type 0

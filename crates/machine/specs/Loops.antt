@@ -1,7 +1,7 @@
 -- The law that the loops of the runner come to their own end, and not to the end of the turns that they are given.
 --   LoopsEnd    a thread has turns enough for any return or stop, and after a tick no binding is due
 use Rattle.std.specs.Prelude.{◌≡◌, ℕ, ◌+◌, ◌<◌, ◌≤◌, List, None}
-use Rattle.std.specs.List.{AllByRecursion as All}
+use Rattle.std.specs.List.{AllByRecursion}
 use Rattle.ecode.specs.Verdict.{Contents}
 use Rattle.host.specs.Meaning.{Meaning}
 use Rattle.machine.specs.State.{Ports, size, State, fresh}
@@ -13,7 +13,7 @@ use Rattle.machine.specs.Begins.{Begins}
 -- stopped every binding waits for a later tick
 pub record Finished (m : Meaning) (p : Contents) (v : Ports) : Type 0 where
   pub thread_ends : (a more : ℕ) (s : State) → a < size p → thread m p (size p + more) a s ≡ thread m p (size p) a s
-  pub none_due : (calls : List RunCall) → (after m p calls (fresh p v)).stop ≡ None → All (λ b. 1 ≤ b.wait) (after m p calls (fresh p v)).queue
+  pub none_due : (calls : List RunCall) → (after m p calls (fresh p v)).stop ≡ None → AllByRecursion (λ b. 1 ≤ b.wait) (after m p calls (fresh p v)).queue
 
 -- wherever a run may begin
 abbrev pub LoopsEnd : Type 0

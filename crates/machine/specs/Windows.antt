@@ -7,7 +7,7 @@
 --   WindowsKept      the same of every release in the ticks of a run
 --   WindowsAreKept   so it is in every run with a policy that goes by the earliest deadline
 use Rattle.std.specs.Prelude.{◌≡◌, ℕ, ◌+◌, ◌<◌, ◌≤◌, Bool, true, false, ◌||◌, List, [], ◌∷◌, ◌++◌, length, Some, None, slice_index_or}
-use Rattle.std.specs.List.{AllByRecursion as All}
+use Rattle.std.specs.List.{AllByRecursion}
 use Rattle.ecode.specs.declared.sheet.Sheet.{Sheet}
 use Rattle.ecode.specs.declared.code.Instruction.{Instruction}
 use Rattle.ecode.specs.declared.code.Instruction.TheVariants.{Call, Release, Future, If, Jump, Return}
@@ -49,7 +49,7 @@ pub record WindowKept (s : Sheet) (ticks : List (List Event)) (i : ℕ) (since :
   -- in the w-th later tick, if there are so many, a call does
   pub at_end : i + w < length ticks → some_shares s t (slice_index_or ticks (i + w) []) ≡ true
   -- and it finds the task not pending
-  pub ended : i + w < length ticks → All (λ e. shares_by s e.instruction t ≡ true → e.pending t ≡ false) (slice_index_or ticks (i + w) [])
+  pub ended : i + w < length ticks → AllByRecursion (λ e. shares_by s e.instruction t ≡ true → e.pending t ≡ false) (slice_index_or ticks (i + w) [])
 
 -- a log has its newest event first, so that what came after an event stands before it
 abbrev pub WindowsKept : Sheet → List (List Event) → Type 0

@@ -2,7 +2,7 @@
 --   WorkWithin       the bounds that a run keeps: on its queue, and on each of its ticks
 --   WorkIsBounded    every run keeps them
 use Rattle.std.specs.Prelude.{◌*◌, ◌≤◌, List, length}
-use Rattle.std.specs.List.{AllByRecursion as All}
+use Rattle.std.specs.List.{AllByRecursion}
 use Rattle.ecode.specs.Verdict.{Contents}
 use Rattle.host.specs.Meaning.{Meaning}
 use Rattle.machine.specs.State.{Ports, size, Event, State, fresh}
@@ -14,8 +14,8 @@ use Rattle.machine.specs.Begins.{Begins}
 -- bindings than tasks
 pub record WorkWithin (m : Meaning) (p : Contents) (s : State) (ticks : List (List Event)) : Type 0 where
   pub bindings : length s.queue ≤ m.sheet.tasks
-  pub instructions : All (λ log. length log ≤ m.sheet.tasks * size p) ticks
-  pub waiting : All (λ log. All (λ e. e.waiting ≤ m.sheet.tasks) log) ticks
+  pub instructions : AllByRecursion (λ log. length log ≤ m.sheet.tasks * size p) ticks
+  pub waiting : AllByRecursion (λ log. AllByRecursion (λ e. e.waiting ≤ m.sheet.tasks) log) ticks
 
 -- for every list of calls, the empty one too, whatever is chosen at its ticks: so at the begin and after each call
 abbrev pub WorkIsBounded : Type 0

@@ -1,6 +1,6 @@
 -- The loops of a tick, one turn at a time: what is left to do from here gives what the whole gives.
 use Rattle.std.proofs.Common.{◌≡◌, ℕ, zero, suc, ◌+◌, ◌-◌, ◌<◌, ◌≤◌, Bool, true, false, cond, eqb, List, [], ◌∷◌, ◌++◌, length, Some, None, Option, sym, refl, ap, ◌∙◌, subst, arith, length-append}
-use Rattle.std.specs.List.{AllByRecursion as All}
+use Rattle.std.specs.List.{AllByRecursion}
 use Rattle.std.proofs.ByRecursion.{All-push}
 use Rattle.std.proofs.lemmas.Bool.{ne_eqb}
 use Rattle.ecode.specs.declared.code.Instruction.{Instruction}
@@ -124,30 +124,30 @@ module _ (m : Meaning) (p : Contents) where
 
   -- what holds of a whole log holds of it as it was before
   module _ (P : Event → Type 0) where
-    step_log : (a : ℕ) (s : State) → All P (step m p a s).state.log → All P s.log
+    step_log : (a : ℕ) (s : State) → AllByRecursion P (step m p a s).state.log → AllByRecursion P s.log
     step_log a s x = go (touched m.sheet s.pending (instruction_at p a)) x
       where
-        go : (o : Option ℕ) → All P (performed m (instruction_at p a) a o s).state.log → All P s.log
+        go : (o : Option ℕ) → AllByRecursion P (performed m (instruction_at p a) a o s).state.log → AllByRecursion P s.log
         go None x = x.1
         go (Some t) x = x.1
 
-    onward_log : (turns : ℕ) (s : State) (o : Option ℕ) → ((b : ℕ) (t : State) → All P (thread m p turns b t).log → All P t.log)
-        → All P (onward (thread m p turns) s o).log → All P s.log
+    onward_log : (turns : ℕ) (s : State) (o : Option ℕ) → ((b : ℕ) (t : State) → AllByRecursion P (thread m p turns b t).log → AllByRecursion P t.log)
+        → AllByRecursion P (onward (thread m p turns) s o).log → AllByRecursion P s.log
     onward_log turns s None ih x = x
     onward_log turns s (Some b) ih x = ih b s x
 
-    thread_log : (turns a : ℕ) (s : State) → All P (thread m p turns a s).log → All P s.log
+    thread_log : (turns a : ℕ) (s : State) → AllByRecursion P (thread m p turns a s).log → AllByRecursion P s.log
     thread_log zero a s x = x
     thread_log (suc turns) a s x = step_log a s (onward_log turns (step m p a s).state (step m p a s).next (λ b t y. thread_log turns b t y) x)
 
-    thread_head : (turns a : ℕ) (s : State) → All P (thread m p (suc turns) a s).log → All P (step m p a s).state.log
+    thread_head : (turns a : ℕ) (s : State) → AllByRecursion P (thread m p (suc turns) a s).log → AllByRecursion P (step m p a s).state.log
     thread_head turns a s x = onward_log turns (step m p a s).state (step m p a s).next (thread_log turns) x
 
-    threads_log : (turns : ℕ) (s : State) → All P (threads m p turns s).log → All P s.log
+    threads_log : (turns : ℕ) (s : State) → AllByRecursion P (threads m p turns s).log → AllByRecursion P s.log
     threads_log zero s x = x
     threads_log (suc turns) s x = go (unless_stopped s.stop (first_due s.queue)) (λ t y. threads_log turns t y) x
       where
-        go : (o : Option Due) → ((t : State) → All P (threads m p turns t).log → All P t.log) → All P (threads_on (threads m p turns) m p s o).log → All P s.log
+        go : (o : Option Due) → ((t : State) → AllByRecursion P (threads m p turns t).log → AllByRecursion P t.log) → AllByRecursion P (threads_on (threads m p turns) m p s o).log → AllByRecursion P s.log
         go None ih y = y
         go (Some d) ih y = thread_log (size p) d.address (with_queue s d.others) (ih _ y)
 

@@ -7,7 +7,7 @@
 use Rattle.std.specs.Prelude.{◌≡◌, ℕ, ◌<◌, ◌≤◌, List, Some, None, Option}
 use Rattle.ecode.specs.declared.code.Instruction.{Instruction}
 use Rattle.ecode.specs.declared.code.Instruction.TheVariants.{Call, Release, Future, If, Jump, Return}
-use Rattle.std.specs.List.{AllByRecursion as All}
+use Rattle.std.specs.List.{AllByRecursion}
 use Rattle.machine.specs.declared.binding.Binding.{Binding}
 use Rattle.machine.specs.declared.stop.Stop.{Stop}
 use Rattle.machine.specs.State.{Event}
@@ -53,8 +53,8 @@ OnlyTouch (Some x) = x.number ≡ 15
 
 -- the bindings' addresses lie in a program of n instructions
 abbrev pub Inside : ℕ → List Binding → Type 0
-Inside n q = All (λ b. b.at < n) q
+Inside n q = AllByRecursion (λ b. b.at < n) q
 
 -- no more than eight bindings wait after any instruction
 abbrev pub Roomy : List Event → Type 0
-Roomy log = All (λ e. e.waiting ≤ 8) log
+Roomy log = AllByRecursion (λ e. e.waiting ≤ 8) log

@@ -10,7 +10,7 @@ loop-b-preserved c =
     let old = c.args.bindings.now in
     let i = c.loop-b.b-index in
     let lt : i < length old = omega arith in
-    ap (λ v. set c.loop-b.bindings i v) c.wait-less.ensures
+    ap (λ v. set c.loop-b.bindings i v) c.wait_less.ensures
     ∙ ap (λ l. set l i (one_less_wait (get_or l i none))) c.loop-b.invariant
     ∙ upto_more one_less_wait old i none lt
 

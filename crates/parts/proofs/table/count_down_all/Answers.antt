@@ -9,7 +9,7 @@ loop-slot-preserved c =
     let old = c.args.slots.now in
     let i = c.loop-slot.slot-index in
     let lt : i < length old = omega arith in
-    ap (λ v. set c.loop-slot.slots i v) c.count-down.ensures
+    ap (λ v. set c.loop-slot.slots i v) c.count_down.ensures
     ∙ ap (λ l. set l i (one_less (get_or l i no_slot))) c.loop-slot.invariant
     ∙ upto_more one_less old i no_slot lt
 

@@ -10,6 +10,6 @@ pub loop-t-preserved : goal.loop-t-preserved
 loop-t-preserved c t =
     let test = shares c.args.sheet.now c.args.d in
     elim c.if-sharing.branch [
-      | then-sharing w ↦ ap (λ z. has z t) w.set-is ∙ w.with-task-set.ensures t ∙ one_more_in test c.loop-t.t (has c.loop-t.set t) t (c.loop-t.invariant t) (sym w.if-sharing.ensures)
+      | then-sharing w ↦ ap (λ z. has z t) w.set-is ∙ w.with_task-set.ensures t ∙ one_more_in test c.loop-t.t (has c.loop-t.set t) t (c.loop-t.invariant t) (sym w.if-sharing.ensures)
       | else-sharing w ↦ ap (λ z. has z t) w.set-is ∙ one_more_out test c.loop-t.t (has c.loop-t.set t) t (c.loop-t.invariant t) (sym w.if-sharing.ensures)
     ]

@@ -10,11 +10,11 @@ loop-d-preserved c =
     let old = c.loop-d.table in
     let s = c.args.sheet.now in
     let at = c.loop-d.d in
-    let new = c.shared-tasks.result in (
+    let new = c.shared_tasks.result in (
       length-set _ _ _ ∙ c.loop-d.invariant.0,
       λ d t h. elim (cases_eq d at) [
         | inl e ↦
-            ap (λ i. has (get_or (set old at new) i 0) t) e ∙ ap (λ z. has z t) (get_or-set_same old at new 0 (omega arith)) ∙ c.shared-tasks.ensures t
+            ap (λ i. has (get_or (set old at new) i 0) t) e ∙ ap (λ z. has z t) (get_or-set_same old at new 0 (omega arith)) ∙ c.shared_tasks.ensures t
             ∙ ap (λ i. ltb t s.tasks && shares s i t) (sym e)
         | inr e ↦ ap (λ z. has z t) (get_or-set_other old at d new 0 e) ∙ c.loop-d.invariant.1 d t (omega arith)
       ],

@@ -12,6 +12,6 @@ pub returns : goal.returns
 returns c ports =
     let set = c.args.set in
     let table = c.args.self.now in
-    c.lowest-in.ensures
+    c.lowest_in.ensures
     ∙ lowest_same (has (bit_and set table.pending)) (λ t. has set t && is_pending (jobs ports table) t) 8
     (λ t l. has_and set table.pending t ∙ ap (λ b. has set t && b) (sym (is_pending_has ports table t)))
