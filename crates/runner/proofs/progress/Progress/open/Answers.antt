@@ -6,8 +6,8 @@ returns g c =
     record {
       after = λ l x. record {
         ports = c.feed.ensures.ports x;
-        queue = c.count-down-2.ensures x;
-        pending = c.count-down.ensures c.args.wiring.now.ports x;
+        queue = c.count_down-2.ensures x;
+        pending = c.count_down.ensures c.args.wiring.now.ports x;
         running = c.args.self.now.running;
         stop = c.requires.going x;
         log = mathlib.Core.List.[];

@@ -21,7 +21,7 @@ due-init g c =
 pub loop-next-init : goal.loop-next-init
 loop-next-init g c =
     let p = program_of c.args.wiring.now c.args.program.now in
-    let d = drawn c.args.program.now.listing.count (queued c.due.self.queue) (record { address = c.in-Some.first; others = queued c.take-due.new.self }) c.in-Some.ensures in
+    let d = drawn c.args.program.now.listing.count (queued c.due.self.queue) (record { address = c.in-Some.first; others = queued c.take_due.new.self }) c.in-Some.ensures in
     (refl, refl, d.address c.due.invariant.2, omega arith, omega arith, d.inside c.due.invariant.2, omega arith, λ k. record { turns = size p; log = k; enough = omega arith; count = omega arith; same = refl })
 
 pub step-requires : goal.step-requires
@@ -36,7 +36,7 @@ step-requires g c =
     let same : M c.loop-next.host ≡ M c.args.host.now = inv.0 ∙ due.0 in
     let whole = threads (M c.args.host.now) p (length (queued c.args.self.now.queue)) (standing w (ports c.args.host.now) [] c.args.self.now) in
     let v₀ : List Event → State = λ j. standing w (ports c.due.host) j c.due.self in
-    let v₁ : List Event → State = λ j. standing w (ports c.due.host) j (requeued c.due.self c.take-due.new.self) in
+    let v₁ : List Event → State = λ j. standing w (ports c.due.host) j (requeued c.due.self c.take_due.new.self) in
     let v : List Event → State = λ j. standing w (ports c.loop-next.host) j c.loop-next.self in
     let left : Left m p v₀ c.due.count whole = subst (λ x. Left x p v₀ c.due.count whole) (sym due.0) due.4 in
     record {
@@ -62,7 +62,7 @@ loop-next-preserved g c =
     let n = c.loop-next.count - c.due.count in
     let whole = threads (M c.args.host.now) p (length (queued c.args.self.now.queue)) (standing w (ports c.args.host.now) [] c.args.self.now) in
     let v₀ : List Event → State = λ j. standing w (ports c.due.host) j c.due.self in
-    let v₁ : List Event → State = λ j. standing w (ports c.due.host) j (requeued c.due.self c.take-due.new.self) in
+    let v₁ : List Event → State = λ j. standing w (ports c.due.host) j (requeued c.due.self c.take_due.new.self) in
     let v : List Event → State = λ j. standing w (ports c.loop-next.host) j c.loop-next.self in
     let v' : List Event → State = λ j. standing w (ports c.step.new.host) j c.step.new.self in
     let left : Left m p v₀ c.due.count whole = subst (λ x. Left x p v₀ c.due.count whole) (sym due.0) due.4 in
@@ -95,7 +95,7 @@ due-smaller g c =
     let n = c.loop-next.count - c.due.count in
     let whole = threads (M c.args.host.now) p (length (queued c.args.self.now.queue)) (standing w (ports c.args.host.now) [] c.args.self.now) in
     let v₀ : List Event → State = λ j. standing w (ports c.due.host) j c.due.self in
-    let v₁ : List Event → State = λ j. standing w (ports c.due.host) j (requeued c.due.self c.take-due.new.self) in
+    let v₁ : List Event → State = λ j. standing w (ports c.due.host) j (requeued c.due.self c.take_due.new.self) in
     let v : List Event → State = λ j. standing w (ports c.loop-next.host) j c.loop-next.self in
     let v' : List Event → State = λ j. standing w (ports c.step.new.host) j c.step.new.self in
     let left : Left m p v₀ c.due.count whole = subst (λ x. Left x p v₀ c.due.count whole) (sym due.0) due.4 in
@@ -104,7 +104,7 @@ due-smaller g c =
     let es = c.in-Returned.ensures in
     let turn : Stepped m p a v v' (None) = moved p a v v' (None) (M c.loop-next.host) m inv.0 es.turn in
     let q = queue_stepped m p prog.listing.count a v v' (None) turn (bounds.ranges a low) (subst (λ k. Aimed k a (instruction_at p a)) (size_is w prog) (bounds.addresses a low)) in
-    omega (arith, q.few, inv.6, (drawn 0 (queued c.due.self.queue) (record { address = c.in-Some.first; others = queued c.take-due.new.self }) c.in-Some.ensures).fewer)
+    omega (arith, q.few, inv.6, (drawn 0 (queued c.due.self.queue) (record { address = c.in-Some.first; others = queued c.take_due.new.self }) c.in-Some.ensures).fewer)
 
 pub due-preserved : goal.due-preserved
 due-preserved g c =
@@ -120,7 +120,7 @@ due-preserved g c =
     let n = c.loop-next.count - c.due.count in
     let whole = threads (M c.args.host.now) p (length (queued c.args.self.now.queue)) (standing w (ports c.args.host.now) [] c.args.self.now) in
     let v₀ : List Event → State = λ j. standing w (ports c.due.host) j c.due.self in
-    let v₁ : List Event → State = λ j. standing w (ports c.due.host) j (requeued c.due.self c.take-due.new.self) in
+    let v₁ : List Event → State = λ j. standing w (ports c.due.host) j (requeued c.due.self c.take_due.new.self) in
     let v : List Event → State = λ j. standing w (ports c.loop-next.host) j c.loop-next.self in
     let v' : List Event → State = λ j. standing w (ports c.step.new.host) j c.step.new.self in
     let left : Left m p v₀ c.due.count whole = subst (λ x. Left x p v₀ c.due.count whole) (sym due.0) due.4 in
@@ -129,8 +129,8 @@ due-preserved g c =
     let es = c.in-Returned.ensures in
     let turn : Stepped m p a v v' (None) = moved p a v v' (None) (M c.loop-next.host) m inv.0 es.turn in
     let q = queue_stepped m p prog.listing.count a v v' (None) turn (bounds.ranges a low) (subst (λ k. Aimed k a (instruction_at p a)) (size_is w prog) (bounds.addresses a low)) in
-    let few : due_count (queued c.step.new.self.queue) ≤ due_count (queued c.take-due.new.self) = omega (arith, q.few, inv.6) in
-    let d = drawn 0 (queued c.due.self.queue) (record { address = c.in-Some.first; others = queued c.take-due.new.self }) c.in-Some.ensures in
+    let few : due_count (queued c.step.new.self.queue) ≤ due_count (queued c.take_due.new.self) = omega (arith, q.few, inv.6) in
+    let d = drawn 0 (queued c.due.self.queue) (record { address = c.in-Some.first; others = queued c.take_due.new.self }) c.in-Some.ensures in
     let back = comes_back m p v₀ v₁ v a c.in-Some.first c.due.count n whole left due.1 c.in-Some.ensures (λ k. refl) inv.7 low v' None turn (λ l. refl) refl (λ l. few) (λ j k. refl) in
     let counted : n + c.due.count + 1 ≡ c.loop-next.count + 1 = omega arith in (
       es.same ∙ inv.0 ∙ due.0,
@@ -154,7 +154,7 @@ returns-in-Stopped g c =
     let n = c.loop-next.count - c.due.count in
     let whole = threads (M c.args.host.now) p (length (queued c.args.self.now.queue)) (standing w (ports c.args.host.now) [] c.args.self.now) in
     let v₀ : List Event → State = λ j. standing w (ports c.due.host) j c.due.self in
-    let v₁ : List Event → State = λ j. standing w (ports c.due.host) j (requeued c.due.self c.take-due.new.self) in
+    let v₁ : List Event → State = λ j. standing w (ports c.due.host) j (requeued c.due.self c.take_due.new.self) in
     let v : List Event → State = λ j. standing w (ports c.loop-next.host) j c.loop-next.self in
     let v' : List Event → State = λ j. standing w (ports c.step.new.host) j c.step.new.self in
     let left : Left m p v₀ c.due.count whole = subst (λ x. Left x p v₀ c.due.count whole) (sym due.0) due.4 in
@@ -163,7 +163,7 @@ returns-in-Stopped g c =
     let es = c.in-Stopped.ensures in
     let turn : Stepped m p a v v' (None) = moved p a v v' (None) (M c.loop-next.host) m inv.0 es.turn in
     let q = queue_stepped m p prog.listing.count a v v' (None) turn (bounds.ranges a low) (subst (λ k. Aimed k a (instruction_at p a)) (size_is w prog) (bounds.addresses a low)) in
-    let few : due_count (queued c.step.new.self.queue) ≤ due_count (queued c.take-due.new.self) = omega (arith, q.few, inv.6) in
+    let few : due_count (queued c.step.new.self.queue) ≤ due_count (queued c.take_due.new.self) = omega (arith, q.few, inv.6) in
     let back = comes_back m p v₀ v₁ v a c.in-Some.first c.due.count n whole left due.1 c.in-Some.ensures (λ k. refl) inv.7 low v' None turn (λ l. refl) refl (λ l. few) (λ j k. refl) in
     let e : v' back.log ≡ whole = sym (threads_stopped m p back.turns (v' back.log) es.told) ∙ back.same in
     record {
@@ -173,8 +173,8 @@ returns-in-Stopped g c =
       same = es.same ∙ inv.0 ∙ due.0;
     }
 
-pub returns-in-default : goal.returns-in-default
-returns-in-default g c =
+pub returns-in_default : goal.returns-in_default
+returns-in_default g c =
     let M = g.H.Host.meaning in
     let ports = g.H.Host.ports in
     let w = c.args.wiring.now in
@@ -182,9 +182,9 @@ returns-in-default g c =
     let m = M c.args.host.now in
     let whole = threads m p (length (queued c.args.self.now.queue)) (standing w (ports c.args.host.now) [] c.args.self.now) in
     let v₀ : List Event → State = λ j. standing w (ports c.due.host) j c.due.self in
-    let v₁ : List Event → State = λ j. standing w (ports c.due.host) j (requeued c.due.self c.take-due.new.self) in
+    let v₁ : List Event → State = λ j. standing w (ports c.due.host) j (requeued c.due.self c.take_due.new.self) in
     let left = c.due.invariant.4 in
-    let none = c.in-default.ensures in
+    let none = c.in_default.ensures in
     let e : v₁ left.log ≡ whole = (λ x. with_queue (v₀ left.log) (none.1 x)) ∙ sym (threads_none m p left.turns (v₀ left.log) none.0) ∙ left.same in
     record {
       after = whole_from v₁ left.log whole (λ k. refl) e;

@@ -21,8 +21,8 @@ bounds-wiring-driver g c =
     let is = reads w p a c.requires.within i c.in-Call.is in
     omega (arith, ranged m w p a i is c.requires.bounds c.requires.within, (g.met.H.Host.lawful host).rules.few_drivers)
 
-pub is-pending-requires : goal.is-pending-requires
-is-pending-requires g c =
+pub is_pending-requires : goal.is_pending-requires
+is_pending-requires g c =
     let host = c.args.host.now in
     let m = g.H.Host.meaning host in
     let w = c.args.wiring.now in
@@ -92,8 +92,8 @@ returns-in-None g c =
       upward = (omega arith, aimed m w p a i is c.requires.bounds c.requires.within);
     }
 
-pub returns-then-is-pending : goal.returns-then-is-pending
-returns-then-is-pending g c =
+pub returns-then-is_pending : goal.returns-then-is_pending
+returns-then-is_pending g c =
     let host = c.args.host.now in
     let m = g.H.Host.meaning host in
     let w = c.args.wiring.now in
@@ -103,17 +103,17 @@ returns-then-is-pending g c =
     let is = reads w p a c.requires.within i c.in-Release.is in
     let s : List Event → State = λ l. standing w (g.H.Host.ports host) l c.args.self.now in
     let who : Some c.in-Release.task ≡ cond (is_pending (jobs w.ports c.args.self.now.table) c.in-Release.task) (Some c.in-Release.task) None
-    = ap (λ b. cond b (Some c.in-Release.task) None) (c.if-is-pending.ensures w.ports) in
+    = ap (λ b. cond b (Some c.in-Release.task) None) (c.if-is_pending.ensures w.ports) in
     record {
       turn = λ l. touches m w p a i is (s l) _ c.in-Release.task who
-          (λ k x. record { ports = (s l).ports; queue = (s l).queue; pending = (s l).pending; running = (s l).running; stop = Some (c.touch-then-is-pending.ensures x); log = k });
+          (λ k x. record { ports = (s l).ports; queue = (s l).queue; pending = (s l).pending; running = (s l).running; stop = Some (c.touch-then-is_pending.ensures x); log = k });
       same = refl;
-      told = ap (λ (x : Stop). x.number) c.touch-then-is-pending.ensures;
+      told = ap (λ (x : Stop). x.number) c.touch-then-is_pending.ensures;
       upward = tt;
     }
 
-pub returns-else-is-pending : goal.returns-else-is-pending
-returns-else-is-pending g c =
+pub returns-else-is_pending : goal.returns-else-is_pending
+returns-else-is_pending g c =
     let host = c.args.host.now in
     let m = g.H.Host.meaning host in
     let w = c.args.wiring.now in
@@ -123,7 +123,7 @@ returns-else-is-pending g c =
     let is = reads w p a c.requires.within i c.in-Release.is in
     let s : List Event → State = λ l. standing w (g.H.Host.ports host) l c.args.self.now in
     let who : None ≡ cond (is_pending (jobs w.ports c.args.self.now.table) c.in-Release.task) (Some c.in-Release.task) None
-    = ap (λ b. cond b (Some c.in-Release.task) None) (c.if-is-pending.ensures w.ports) in
+    = ap (λ b. cond b (Some c.in-Release.task) None) (c.if-is_pending.ensures w.ports) in
     record {
       turn = λ l. passes m w p a i is (s l) _ (Some (a + 1)) who
           (λ k x. record { ports = (s l).ports; queue = (s l).queue; pending = c.release.ensures x; running = (s l).running; stop = (s l).stop; log = k }) refl;

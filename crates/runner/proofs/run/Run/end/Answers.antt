@@ -19,7 +19,7 @@ returns g c =
         pending = record {
           numbers = pending_numbers m.sheet.tasks f;
           any_order = IsPermutation-refl (pending_numbers m.sheet.tasks f);
-          rest = c.write-pending.ensures r.bench.wiring.ports ∙ ap (λ n. written (pending_numbers n f)) c.requires.bench.wired.tasks;
+          rest = c.write_pending.ensures r.bench.wiring.ports ∙ ap (λ n. written (pending_numbers n f)) c.requires.bench.wired.tasks;
         };
       };
       sound = c.requires.bench;
