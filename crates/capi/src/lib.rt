@@ -1,4 +1,4 @@
-// The check for callers in C: bytes in, a refusal's number out, 0 where the image is accepted.
+// The check by numbers, as callers in C want it: bytes in, a refusal's number out, 0 where the image is accepted. capi_c exports it.
 #![tactic(auto)]
 
 pub mod wide;
@@ -23,8 +23,7 @@ fn number_of(sheet: &Sheet, image: &[u8], budgets: &[u8]) -> u8
 }
 
 // The check for the pitch drive.
-#[unsafe(no_mangle)]
-pub extern "C" fn pitch_check(image: &[u8], budgets: &[u8]) -> u8
+pub fn pitch_check(image: &[u8], budgets: &[u8]) -> u8
     ensures { result ≡ number (verdict pitch_sheet image.now budgets.now) }
 {
     let sheet = pitch::sheet();
@@ -32,8 +31,7 @@ pub extern "C" fn pitch_check(image: &[u8], budgets: &[u8]) -> u8
 }
 
 // The check for the drive with eight tasks, for measuring.
-#[unsafe(no_mangle)]
-pub extern "C" fn wide_check(image: &[u8], budgets: &[u8]) -> u8
+pub fn wide_check(image: &[u8], budgets: &[u8]) -> u8
     ensures { result ≡ number (verdict wide_sheet image.now budgets.now) }
 {
     let sheet = wide::sheet();

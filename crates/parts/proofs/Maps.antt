@@ -1,7 +1,6 @@
 -- A loop that changes each element in its turn, over a whole list or over its front.
-use Rattle.std.proofs.Common.{◌≡◌, ℕ, zero, suc, ◌+◌, ◌-◌, ◌<◌, ◌≤◌, List, [], ◌∷◌, ◌++◌, map, length, get_or, take, drop, set, sym, refl, ap, ◌∙◌, append_assoc, add-one, arith, length-append, length-drop, length-take, take_all}
+use Rattle.std.proofs.Common.{◌≡◌, ℕ, zero, suc, ◌+◌, ◌-◌, ◌<◌, ◌≤◌, List, [], ◌∷◌, ◌++◌, map, length, get_or, take, drop, set, refl, ap, ◌∙◌, add-one, arith, length-append, length-drop, length-take, take_all}
 use lib.ListN.{length-map}
-use lib.Seq.{take-append-le}
 use Rattle.std.proofs.lemmas.List.{drop_all, append-nil}
 
 module _ {X : Type 0} (f : X → X) where

@@ -1,15 +1,15 @@
 -- The table of tasks as the reference runner has it.
-use Rattle.std.proofs.Common.{◌≡◌, ℕ, zero, suc, ◌+◌, ◌-◌, ◌<◌, ◌≤◌, Bool, true, false, cond, not, ◌&&◌, ◌||◌, eqb, List, [], ◌∷◌, ◌++◌, map, length, get_or, take, replicate, is_some, Some, None, Option, sym, refl, ap, ◌∙◌, subst, inl, inr, append-nil, add-one, arith, length-append, length-take, get_or-take, ext_get_or}
+use Rattle.std.proofs.Common.{◌≡◌, ℕ, ◌+◌, ◌-◌, ◌<◌, ◌≤◌, Bool, true, false, cond, List, [], ◌∷◌, ◌++◌, map, length, get_or, take, replicate, is_some, Some, None, sym, refl, ap, ◌∙◌, inl, inr, append-nil, add-one, arith, length-append, length-take, get_or-take, ext_get_or}
 use mathlib.Core.Path.{fun_ext}
 use lib.ListN.{length-map, length-replicate, get_or-replicate}
 use Rattle.std.proofs.lemmas.List.{get_or_append_left, get_or-append_right, get_or-map}
-use Rattle.std.proofs.lemmas.Bool.{cases_lt, cases_eq, cases_Bool, eq-eqb, ne_eqb, eqb-true, cond-true, cond-false}
+use Rattle.std.proofs.lemmas.Bool.{cases_lt, cond-true, cond-false}
 use Rattle.ecode.specs.Wiring.{has}
 use Rattle.policy.specs.declared.pending.PendingTask.{PendingTask}
 use Rattle.policy.specs.Choice.{nobody}
 use Rattle.machine.specs.State.{Job, Table, is_pending}
 use Rattle.machine.specs.Choices.{entry_of, pending_tasks}
-use Rattle.machine.specs.Runner.{changed, one_less_left, one_more_used}
+use Rattle.machine.specs.Runner.{one_less_left}
 use Rattle.parts.specs.declared.data.Slot.{Slot}
 use Rattle.parts.specs.declared.data.TaskTable.{TaskTable}
 use Rattle.parts.proofs.Maps.{upto, upto_below}

@@ -2,7 +2,7 @@
 --   sensors_from    the sensor ports among these kinds, numbered from some port on
 --   sensed          the ports that a list of sensor ports holds
 --   WiredFor        a wiring is that of a sheet
-use Rattle.std.specs.Prelude.{◌≡◌, ℕ, ◌+◌, ◌<◌, Bool, ◌&&◌, List, [], ◌∷◌, ◌++◌, take, nat_lt, slice_index}
+use Rattle.std.specs.Prelude.{◌≡◌, ℕ, ◌+◌, ◌<◌, ◌&&◌, List, [], ◌∷◌, ◌++◌, take, nat_lt, slice_index}
 use Rattle.ecode.specs.declared.port.PortKind.{PortKind}
 use Rattle.ecode.specs.declared.port.PortKind.TheVariants.{Sensor, Driver, Task}
 use Rattle.ecode.specs.declared.sheet.Sheet.{Sheet}

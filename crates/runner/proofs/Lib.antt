@@ -5,3 +5,4 @@ pub mod Sounds
 pub mod Threads
 pub mod Ticks
 pub mod Turns
+pub mod Plays

@@ -1,15 +1,14 @@
 -- The phases of a tick on a sound run: what each leaves, and what the tick then answers, by the reference runner.
-use Rattle.std.proofs.Common.{◌≡◌, ℕ, ◌-◌, ◌<◌, ◌≤◌, Bool, true, false, cond, List, [], map, length, get_or, take, ℤ, Some, None, Ok, Err, Option, sym, refl, ap, ◌∙◌, subst, arith}
+use Rattle.std.proofs.Common.{◌≡◌, ℕ, ◌-◌, ◌≤◌, Bool, true, false, List, [], length, get_or, take, ℤ, Some, None, Ok, Err, Option, sym, ap, ◌∙◌, subst, arith}
 use lib.ListN.{length-map}
 use Rattle.std.proofs.lemmas.Bool.{eq-eqb}
 use Rattle.ecode.specs.Verdict.{Contents}
 use Rattle.host.specs.Meaning.{Meaning, Lawful}
-use Rattle.policy.specs.declared.pending.PendingTask.{PendingTask}
 use Rattle.policy.specs.Choice.{Choice}
 use Rattle.machine.specs.declared.stop.Stop.{Stop}
 use Rattle.machine.specs.declared.fault.RunFault.TheVariants.{BudgetUsedUp, Touched}
-use Rattle.machine.specs.State.{Ports, Table, Event, State, bare, is_pending, budget}
-use Rattle.machine.specs.Runner.{charged, exhausted, one_less_wait, kinds_of, opening, closing, threads, tick}
+use Rattle.machine.specs.State.{Ports, Table, State, bare, is_pending, budget}
+use Rattle.machine.specs.Runner.{charged, exhausted, one_less_wait, kinds_of, opening, closing, threads}
 use Rattle.machine.specs.Choices.{pending_tasks}
 use Rattle.machine.specs.Calls.{Tick, counts, sensor_count, leaves, ran_or_stopped, tick_answer, Asked}
 use Rattle.machine.proofs.Reached.{Steady}

@@ -1,13 +1,12 @@
 -- Lists of calls, one call more at a time.
-use Rattle.std.proofs.Common.{◌≡◌, ℕ, zero, suc, ◌+◌, ◌<◌, ◌≤◌, Bool, ◌⊎◌, List, [], ◌∷◌, ◌++◌, length, get_or, take, drop, set, sym, refl, ap, ◌∙◌, subst, inl, inr, arith}
+use Rattle.std.proofs.Common.{◌≡◌, ℕ, zero, suc, ◌+◌, ◌<◌, ◌≤◌, Bool, ◌⊎◌, List, [], ◌∷◌, ◌++◌, length, get_or, take, drop, set, sym, refl, ap, ◌∙◌, subst, inl, inr, arith, drop-drop}
 use Rattle.std.proofs.lemmas.List.{take_more, take_more_set}
-use Rattle.ecode.specs.declared.code.Program.{Program}
 use Rattle.ecode.specs.Verdict.{Contents}
 use Rattle.host.specs.Meaning.{Meaning}
 use Rattle.policy.specs.Choice.{Choice}
 use Rattle.machine.specs.declared.answer.Answer.{Answer}
-use Rattle.machine.specs.State.{Ports, State, bare}
-use Rattle.machine.specs.Calls.{RunCall, leaves, answer, after, answers, Asked, ByPolicy}
+use Rattle.machine.specs.State.{Ports, bare}
+use Rattle.machine.specs.Calls.{leaves, answer, after, answers, Asked, ByPolicy}
 use Rattle.machine.proofs.Reached.{leaves_bare, answer_bare, after_more, answers_more, chosen_more}
 use Rattle.runner.specs.declared.call.Call.{Call}
 use Rattle.runner.specs.declared.call.Call.TheVariants.{Tick}
@@ -93,4 +92,4 @@ module _ {H P : Type 0} (meaning : H → Meaning) (ports : H → Ports) (mark : 
 
 -- what agrees from i on agrees from i + 1 on
 pub drop_one : {A : Type 0} (i : ℕ) (xs ys : List A) → drop i xs ≡ drop i ys → drop (i + 1) xs ≡ drop (i + 1) ys
-drop_one i xs ys e = sym (drop-drop i 1 xs) ∙ ap (drop 1) e ∙ drop-drop i 1 ys
+drop_one i xs ys e = sym (drop-drop 1 i xs) ∙ ap (drop 1) e ∙ drop-drop 1 i ys

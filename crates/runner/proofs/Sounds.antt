@@ -1,6 +1,5 @@
 -- Soundness is kept: one call more is made on a run that some calls came to.
-use Rattle.std.proofs.Common.{◌≡◌, ℕ, Bool, true, false, List, [], ◌∷◌, ◌++◌, length, None, Option, sym, refl, ap, ◌∙◌, subst}
-use Rattle.ecode.specs.declared.code.Program.{Program}
+use Rattle.std.proofs.Common.{◌≡◌, ℕ, Bool, List, [], ◌∷◌, ◌++◌, length, None, Option, sym, ap, ◌∙◌, subst}
 use Rattle.ecode.specs.Verdict.{Contents}
 use Rattle.ecode.specs.Accepted.{Accepted}
 use Rattle.host.specs.Meaning.{Meaning, Lawful}
@@ -9,9 +8,8 @@ use Rattle.policy.specs.Choice.{Choice}
 use Rattle.machine.specs.State.{Ports, State, bare, fresh}
 use Rattle.machine.specs.Choices.{pending_tasks}
 use Rattle.machine.specs.Calls.{RunCall, Tick, Done, AskState, AskPort, leaves, after, Asked, ByPolicy}
-use Rattle.machine.specs.Begins.{Begins}
+use Rattle.machine.specs.Begins.{RowsOfEight, Begins}
 use Rattle.machine.proofs.Reached.{leaves_bare, after_more, chosen_more, Steady, steady}
-use Rattle.parts.specs.declared.data.Wiring.{Wiring}
 use Rattle.parts.specs.Wired.{WiredFor}
 use Rattle.runner.specs.declared.bench.Bench.{Bench}
 use Rattle.runner.specs.declared.run.Run.{Run}
@@ -47,6 +45,7 @@ module _ {H : Type 0} (meaning : H → Meaning) where
   pub bench_kept : (b b' : Bench H) → meaning b'.host ≡ meaning b.host → b'.program ≡ b.program → b'.wiring ≡ b.wiring → SoundBench meaning b → SoundBench meaning b'
   bench_kept b b' em ep ew s = record {
     accepted = subst (λ (m : Meaning). Accepted m.sheet (loaded b')) (sym em) (subst (Accepted (meaning b.host).sheet) (sym (same_program b b' ep ew)) s.accepted);
+    rows = subst RowsOfEight (sym (same_program b b' ep ew)) s.rows;
     wired = subst (λ (m : Meaning). WiredFor m.sheet b'.wiring) (sym em) (subst (WiredFor (meaning b.host).sheet) (sym ew) s.wired);
   }
 
@@ -58,7 +57,7 @@ module _ {H : Type 0} (meaning : H → Meaning) where
     p = loaded r.bench
 
     begins : Begins m p s.begun
-    begins = record { lawful = lawful r.bench.host; accepted = s.bench.accepted; ports = s.long }
+    begins = record { lawful = lawful r.bench.host; accepted = s.bench.accepted; rows = s.bench.rows; ports = s.long }
 
     -- what a call on a run that has not stopped rests on
     pub steady_run : r.progress.stop ≡ None → Steady m p (shown ports r)

@@ -1,5 +1,5 @@
 -- The loops of a tick, one turn at a time: what is left to do from here gives what the whole gives.
-use Rattle.std.proofs.Common.{◌≡◌, ℕ, zero, suc, ◌+◌, ◌-◌, ◌<◌, ◌≤◌, Bool, true, false, cond, eqb, List, [], ◌∷◌, ◌++◌, length, Some, None, Option, sym, refl, ap, ◌∙◌, subst, arith, length-append}
+use Rattle.std.proofs.Common.{◌≡◌, ℕ, zero, suc, ◌+◌, ◌-◌, ◌<◌, ◌≤◌, cond, eqb, List, [], ◌∷◌, length, Some, None, Option, sym, refl, ap, ◌∙◌, subst, arith, length-append}
 use Rattle.std.specs.List.{AllByRecursion}
 use Rattle.std.proofs.ByRecursion.{All-push}
 use Rattle.std.proofs.lemmas.Bool.{ne_eqb}
@@ -12,7 +12,7 @@ use Rattle.machine.specs.declared.binding.Binding.{Binding}
 use Rattle.machine.specs.declared.stop.Stop.{Stop}
 use Rattle.machine.specs.State.{Event, State, size, instruction_at}
 use Rattle.machine.specs.Runner.{touched, queue_after, Turn, performed, step, onward, thread, Due, first_due, with_queue, threads_on, unless_stopped, threads}
-use Rattle.machine.proofs.Queues.{over_push, over_append, Split, due_split, due_count}
+use Rattle.machine.proofs.Queues.{over_push, over_append, due_split, due_count}
 use Rattle.machine.proofs.Ticks.{split_all}
 use Rattle.runner.specs.Turns.{Room, Touch, Inside, Roomy}
 

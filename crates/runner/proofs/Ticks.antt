@@ -1,9 +1,7 @@
 -- A tick of the code, step by step, is a tick of the reference runner.
-use Rattle.std.proofs.Common.{◌≡◌, ℕ, ◌+◌, ◌-◌, ◌<◌, ◌≤◌, Bool, true, false, cond, eqb, leb, List, [], ◌∷◌, map, length, get_or, take, ℤ, is_some, Some, None, Ok, Err, Option, sym, refl, ap, ◌∙◌, subst, inl, inr, arith, length-take}
-use lib.ListN.{length-map}
-use Rattle.std.specs.List.{AllByRecursion}
+use Rattle.std.proofs.Common.{◌≡◌, ℕ, ◌<◌, ◌≤◌, Bool, true, false, cond, eqb, List, [], ◌∷◌, map, length, get_or, take, ℤ, is_some, Some, None, Ok, Err, Option, sym, refl, ap, ◌∙◌, subst, arith, length-take}
 use Rattle.std.proofs.lemmas.List.{get_or-take}
-use Rattle.std.proofs.lemmas.Bool.{cases_lt, cases_Bool, cond-true, cond-false, eqb-true}
+use Rattle.std.proofs.lemmas.Bool.{cond-true, cond-false, eqb-true}
 use Rattle.ecode.specs.Wiring.{has}
 use Rattle.ecode.specs.Verdict.{Contents}
 use Rattle.ecode.specs.declared.sheet.Sheet.{Sheet}
@@ -11,18 +9,17 @@ use Rattle.host.specs.Meaning.{Meaning}
 use Rattle.machine.specs.declared.binding.Binding.{Binding}
 use Rattle.machine.specs.declared.stop.Stop.{Stop}
 use Rattle.machine.specs.declared.fault.RunFault.TheVariants.{Readings, BudgetUsedUp, Touched}
-use Rattle.machine.specs.State.{Ports, Job, Table, Event, State, bare, is_pending, budget}
-use Rattle.machine.specs.Runner.{changed, one_more_used, charged, spent, exhausted, one_less_wait, kinds_of, opening, runs, closing, threads, tick_on, tick}
-use Rattle.machine.specs.Calls.{Tick, counts, sensor_count, if_going, leaves, unless_over, fault_of, ran_or_stopped, tick_answer}
+use Rattle.machine.specs.State.{Ports, Job, Table, State, is_pending, budget}
+use Rattle.machine.specs.Runner.{one_more_used, charged, spent, exhausted, one_less_wait, kinds_of, opening, runs, closing, threads, tick_on, tick}
+use Rattle.machine.specs.Calls.{Tick, counts, sensor_count, if_going, leaves, unless_over, ran_or_stopped, tick_answer}
 use Rattle.machine.proofs.Reached.{Busy, Steady}
 use Rattle.parts.specs.declared.data.TaskTable.{TaskTable}
 use Rattle.parts.specs.declared.data.Wiring.{Wiring}
 use Rattle.parts.specs.Shown.{no_slot, job, jobs, Chargeable}
-use Rattle.parts.specs.Wired.{sensed, sensors_from, WiredFor}
+use Rattle.parts.specs.Wired.{sensed, WiredFor}
 use Rattle.parts.proofs.Feeds.{sensors_many}
-use Rattle.parts.proofs.Tables.{is_pending_has}
 use Rattle.runner.specs.declared.progress.Progress.{Progress}
-use Rattle.runner.specs.Standing.{standing, after_charge}
+use Rattle.runner.specs.Standing.{standing}
 use Rattle.runner.specs.Turns.{OnlyTouch, Inside}
 
 -- a wiring has as many sensors as a tick takes readings

@@ -1,5 +1,5 @@
 -- One instruction of the code is one of the reference runner's.
-use Rattle.std.proofs.Common.{◌≡◌, ℕ, zero, suc, ◌+◌, ◌<◌, ◌≤◌, Bool, true, false, cond, ◌&&◌, ltb, List, [], ◌∷◌, length, get_or, Some, None, Option, sym, refl, ap, ◌∙◌, subst, inl, inr, arith, length-take}
+use Rattle.std.proofs.Common.{◌≡◌, ℕ, zero, suc, ◌<◌, ◌≤◌, ◌&&◌, List, [], ◌∷◌, length, get_or, Some, None, Option, sym, refl, ap, ◌∙◌, subst, arith, length-take}
 use Rattle.std.proofs.lemmas.List.{get_or-take}
 use Rattle.std.proofs.lemmas.Bool.{lt-ltb, le-ltb}
 use Rattle.ecode.specs.declared.sheet.Sheet.{Sheet}
@@ -10,11 +10,10 @@ use Rattle.ecode.specs.declared.code.Program.{Program}
 use Rattle.ecode.specs.Wiring.{has}
 use Rattle.ecode.specs.Sheets.{shares}
 use Rattle.ecode.specs.Typing.{blank}
-use Rattle.ecode.specs.Verdict.{lines_of}
 use Rattle.ecode.specs.Accepted.{Bounded, Ranged, Aimed}
 use Rattle.host.specs.Meaning.{Meaning}
 use Rattle.machine.specs.State.{Event, State, Table, is_pending, size, instruction_at}
-use Rattle.machine.specs.Runner.{lowest, touched, ports_after, queue_after, pending_after, next_after, Turn, performed, step}
+use Rattle.machine.specs.Runner.{lowest, touched, ports_after, queue_after, pending_after, next_after, performed, step}
 use Rattle.parts.specs.declared.data.Wiring.{Wiring}
 use Rattle.parts.specs.Wired.{WiredFor}
 use Rattle.parts.proofs.Bits.{lowest_same, lowest_further}

@@ -7,7 +7,7 @@ use Rattle.std.specs.Prelude.{◌≡◌, ℕ, Bool, List, [], ◌∷◌, ◌++�
 use Rattle.host.specs.Meaning.{Meaning}
 use Rattle.machine.specs.declared.answer.Answer.{Answer}
 use Rattle.machine.specs.declared.answer.Answer.TheVariants.{Ran, Ended, StoppedBy, Value, Refused}
-use Rattle.machine.specs.State.{Ports, State, bare}
+use Rattle.machine.specs.State.{Ports, bare}
 use Rattle.machine.specs.Calls as calls
 use Rattle.machine.specs.Calls.{RunCall, after, answers, ByPolicy}
 use Rattle.runner.specs.declared.call.Call.{Call}

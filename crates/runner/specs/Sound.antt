@@ -1,6 +1,6 @@
 -- When a bench and a run are sound: what every call asks, and every call that makes or keeps one promises.
 --   loaded        the program of a bench, as the reference runner has it
---   SoundBench    the program of a bench is accepted for its host's sheet
+--   SoundBench    the program of a bench is accepted for its host's sheet, and its rows have eight cells
 --   shown         the state that a run shows: all of it but the log of its last tick, which no code holds
 --   SoundRun      some list of calls, with choices that its policy may make, brings a fresh run to what the run shows
 use Rattle.std.specs.Prelude.{◌≡◌, Bool, List, [], length}
@@ -8,6 +8,7 @@ use Rattle.ecode.specs.Verdict.{Contents}
 use Rattle.ecode.specs.Accepted.{Accepted}
 use Rattle.host.specs.Meaning.{Meaning}
 use Rattle.machine.specs.State.{Ports, State, bare, fresh}
+use Rattle.machine.specs.Begins.{RowsOfEight}
 use Rattle.machine.specs.Calls.{RunCall, after, ByPolicy}
 use Rattle.parts.specs.Wired.{WiredFor}
 use Rattle.runner.specs.declared.bench.Bench.{Bench}
@@ -18,9 +19,10 @@ use Rattle.runner.specs.Standing.{program_of, standing}
 abbrev pub loaded : {H : Type 0} → Bench H → Contents
 loaded b = program_of b.wiring b.program
 
--- the program is accepted, and the wiring is the sheet's
+-- the program is accepted, its rows have eight cells, and the wiring is the sheet's
 pub record SoundBench {H : Type 0} (meaning : H → Meaning) (b : Bench H) : Type 0 where
   pub accepted : Accepted (meaning b.host).sheet (loaded b)
+  pub rows : RowsOfEight (loaded b)
   pub wired : WiredFor (meaning b.host).sheet b.wiring
 
 -- with the log left empty

@@ -1,8 +1,8 @@
 -- Each binding in its turn.
-use Rattle.std.proofs.Common.{◌≡◌, ◌<◌, length, get_or, set, ap, ◌∙◌, arith}
+use Rattle.std.proofs.Common.{◌<◌, length, get_or, set, ap, ◌∙◌, arith}
 use Rattle.machine.specs.Runner.{one_less_wait}
 use Rattle.parts.proofs.Queues.{none}
-use Rattle.parts.proofs.Maps.{upto, upto_more, upto_all}
+use Rattle.parts.proofs.Maps.{upto_more, upto_all}
 use Rattle.parts.proofs.queue.wait_less_all.Goals as goal
 
 pub loop-b-preserved : goal.loop-b-preserved

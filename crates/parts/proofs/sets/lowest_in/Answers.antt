@@ -1,5 +1,5 @@
 -- Trailing zeros lead to the lowest member.
-use Rattle.std.proofs.Common.{◌≡◌, sym, ap, ◌∙◌, arith}
+use Rattle.std.proofs.Common.{sym, ap, ◌∙◌, arith}
 use lib.Count.{count_trailing_zeros}
 use Rattle.ecode.specs.Wiring.{has}
 use Rattle.parts.proofs.Bits.{none_in_zero, lowest_clear, lowest_at, trailing_lowest}

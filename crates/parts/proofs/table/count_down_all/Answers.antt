@@ -1,7 +1,7 @@
 -- Each slot in its turn.
-use Rattle.std.proofs.Common.{◌≡◌, ◌<◌, length, get_or, set, ap, ◌∙◌, arith}
+use Rattle.std.proofs.Common.{◌<◌, length, get_or, set, ap, ◌∙◌, arith}
 use Rattle.parts.specs.Shown.{no_slot, one_less}
-use Rattle.parts.proofs.Maps.{upto, upto_more, upto_all}
+use Rattle.parts.proofs.Maps.{upto_more, upto_all}
 use Rattle.parts.proofs.table.count_down_all.Goals as goal
 
 pub loop-slot-preserved : goal.loop-slot-preserved

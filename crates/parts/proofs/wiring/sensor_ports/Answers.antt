@@ -1,5 +1,5 @@
 -- Port by port, those that are sensors.
-use Rattle.std.proofs.Common.{◌≡◌, ◌+◌, ◌<◌, [], ◌∷◌, ◌++◌, length, get_or, take, set, sym, refl, ap, ◌∙◌, append-nil, arith, length-set, rules}
+use Rattle.std.proofs.Common.{◌+◌, ◌<◌, [], ◌∷◌, ◌++◌, length, get_or, take, sym, ap, ◌∙◌, append-nil, arith, length-set}
 use Rattle.std.proofs.lemmas.List.{take_more_set}
 use Rattle.ecode.specs.declared.port.PortKind.TheVariants.{Sensor}
 use Rattle.parts.specs.Wired.{sensor_at, sensors_from}

@@ -1,5 +1,5 @@
 -- Task by task, those that the driver shares with.
-use Rattle.std.proofs.Common.{◌≡◌, sym, ap, ◌∙◌}
+use Rattle.std.proofs.Common.{sym, ap, ◌∙◌}
 use Rattle.ecode.specs.Wiring.{has}
 use Rattle.ecode.specs.Sheets.{shares}
 use Rattle.parts.proofs.Bits.{one_more_in, one_more_out}

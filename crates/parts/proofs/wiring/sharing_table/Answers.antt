@@ -1,5 +1,5 @@
 -- Driver by driver.
-use Rattle.std.proofs.Common.{◌≡◌, ◌&&◌, ltb, length, get_or, set, sym, ap, ◌∙◌, inl, inr, arith, length-set, get_or-set_other, get_or-set_same}
+use Rattle.std.proofs.Common.{◌&&◌, ltb, get_or, set, sym, ap, ◌∙◌, inl, inr, arith, length-set, get_or-set_other, get_or-set_same}
 use Rattle.std.proofs.lemmas.Bool.{cases_eq}
 use Rattle.ecode.specs.Wiring.{has}
 use Rattle.ecode.specs.Sheets.{shares}

@@ -1,5 +1,5 @@
 -- The bindings in use, each in its turn; the rest stay.
-use Rattle.std.proofs.Common.{◌≡◌, length, take, ap, ◌∙◌, arith}
+use Rattle.std.proofs.Common.{length, take, ap, ◌∙◌, arith}
 use Rattle.machine.specs.Runner.{one_less_wait}
 use Rattle.parts.proofs.Maps.{front_upto, length_upto, take_upto}
 use Rattle.parts.proofs.data.Queue.count_down.Goals as goal

@@ -1,5 +1,5 @@
 -- Port by port, all that the sheet has.
-use Rattle.std.proofs.Common.{◌≡◌, ◌<◌, ◌≤◌, length, get_or, take, pos, ◌∙◌, arith, length-take, get_or-take, ext_get_or}
+use Rattle.std.proofs.Common.{◌≡◌, ◌<◌, length, take, pos, ◌∙◌, arith, length-take, get_or-take, ext_get_or}
 use Rattle.parts.proofs.data.Slot.begin.Goals as goal
 
 pub returns : goal.returns

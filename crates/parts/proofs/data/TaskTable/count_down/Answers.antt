@@ -1,5 +1,5 @@
 -- The slots of the sheet's tasks, each in its turn.
-use Rattle.std.proofs.Common.{◌≡◌, length, ap, ◌∙◌, arith}
+use Rattle.std.proofs.Common.{length, ap, ◌∙◌, arith}
 use Rattle.parts.specs.Shown.{one_less}
 use Rattle.parts.proofs.Maps.{front_upto, length_upto}
 use Rattle.parts.proofs.Tables.{jobs_fallen}

@@ -1,5 +1,5 @@
 -- The members of the meet are the pending tasks of the set.
-use Rattle.std.proofs.Common.{◌≡◌, ◌&&◌, sym, ap, ◌∙◌}
+use Rattle.std.proofs.Common.{◌&&◌, sym, ap, ◌∙◌}
 use lib.Bits.{bit_and}
 use Rattle.ecode.specs.Wiring.{has}
 use Rattle.machine.specs.State.{is_pending}

@@ -1,5 +1,5 @@
 -- Byte by byte: the numbers first, and 255 in what is left.
-use Rattle.std.proofs.Common.{◌≡◌, ◌≤◌, map, length, get_or, take, sym, ap, ◌∙◌, arith}
+use Rattle.std.proofs.Common.{◌≤◌, map, ap, ◌∙◌, arith}
 use Rattle.policy.specs.declared.pending.PendingTask.{PendingTask}
 use Rattle.parts.specs.Shown.{written}
 use Rattle.parts.proofs.Tables.{written_is}

@@ -1,7 +1,6 @@
 -- A fresh run, to which no call has led yet.
 use Rattle.std.proofs.Common.{◌≡◌, [], None, refl}
-use Rattle.machine.specs.State.{State, fresh}
-use Rattle.parts.specs.Shown.{queued, jobs}
+use Rattle.machine.specs.State.{fresh}
 use Rattle.runner.specs.declared.progress.Progress.{Progress}
 use Rattle.runner.specs.Standing.{standing}
 use Rattle.runner.specs.Sound.{loaded}

@@ -1,19 +1,13 @@
--- The run followed the reference runner, of which the laws of runs hold.
-use Rattle.std.proofs.Common.{◌≡◌, Bool, true, List, ◌++◌, length, take, drop, sym, refl, ap, ◌∙◌, subst}
-use Rattle.ecode.specs.Verdict.{Contents}
-use Rattle.host.specs.Meaning.{Meaning}
-use Rattle.policy.specs.Choice.{Choice}
-use Rattle.machine.specs.State.{Ports, State, bare, fresh}
-use Rattle.machine.specs.Begins.{Begins}
-use Rattle.machine.specs.Calls.{RunCall, after, answers, ByPolicy, GivenBack}
-use Rattle.machine.proofs.Twins.{agree}
-use Rattle.machine.proofs.Wholes.{windows, work}
-use Rattle.machine.proofs.Growth.{grows}
-use Rattle.machine.proofs.Reached.{chosen_front}
-use Rattle.runner.specs.declared.run.Run.{Run}
-use Rattle.runner.specs.Sound.{loaded, shown}
-use Rattle.runner.specs.Record.{record_of}
+-- The run that was begun, the calls made on it, and what its end gave back.
+use Rattle.runner.proofs.Plays.{promised}
 use Rattle.runner.proofs.bench.Bench.play.Goals as goal
 
 pub returns : goal.returns
-returns g c = ?
+returns g c =
+    record {
+      promise = promised g.H.Host.meaning g.H.Host.ports g.P.Policy.mark g.met.H.Host.lawful g.met.H.Host.long c.args.self c.args.policy c.requires
+          c.begin-run.result c.begin-run.ensures.bench c.begin-run.ensures.policy c.begin-run.ensures.state
+          c.args.calls.now c.args.answers.now c.make_all.new.answers c.make_all.new.self c.make_all.ensures
+          _ _ _ _ c.end.ensures.given;
+      sound = c.end.ensures.sound;
+    }

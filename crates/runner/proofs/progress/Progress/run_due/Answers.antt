@@ -1,8 +1,8 @@
 -- Thread by thread and instruction by instruction: what is left to do gives what the whole gives.
-use Rattle.std.proofs.Common.{◌≡◌, ℕ, ◌+◌, ◌-◌, ◌*◌, ◌<◌, ◌≤◌, List, [], length, Some, None, Option, sym, refl, ap, ◌∙◌, subst, arith}
+use Rattle.std.proofs.Common.{◌≡◌, ◌+◌, ◌-◌, ◌<◌, ◌≤◌, List, [], length, Some, None, sym, refl, ap, ◌∙◌, subst, arith}
 use Rattle.host.specs.Meaning.{Meaning}
 use Rattle.machine.specs.State.{Event, State, size, instruction_at}
-use Rattle.machine.specs.Runner.{thread, threads, with_queue}
+use Rattle.machine.specs.Runner.{threads, with_queue}
 use Rattle.machine.proofs.Queues.{due_few, due_count}
 use Rattle.parts.specs.Shown.{queued}
 use Rattle.parts.specs.Wired.{WiredFor}

@@ -1,4 +1,4 @@
-use Rattle.std.proofs.Common.{◌≡◌, ℕ, ◌+◌, ◌-◌, ◌*◌, ◌<◌, ◌≤◌, List, [], length, None}
+use Rattle.std.proofs.Common.{◌≡◌, ◌+◌, ◌-◌, ◌*◌, ◌<◌, ◌≤◌, List, [], length, None}
 use Rattle.machine.specs.State.{Event, size}
 use Rattle.machine.specs.Runner.{thread, threads}
 use Rattle.machine.proofs.Queues.{due_count}

@@ -1,11 +1,9 @@
 -- Instruction by instruction, what the reference runner does.
-use Rattle.std.proofs.Common.{◌≡◌, ℕ, ◌+◌, ◌<◌, ◌≤◌, Bool, true, false, cond, ◌&&◌, List, get_or, Some, None, Option, sym, refl, ap, ◌∙◌, subst, arith}
+use Rattle.std.proofs.Common.{◌≡◌, ◌+◌, cond, List, Some, None, refl, ap, ◌∙◌, arith}
 use Rattle.ecode.specs.declared.code.Instruction.TheVariants.{Call, Release, Future, If, Jump, Return}
 use Rattle.machine.specs.State.{Event, State, is_pending}
 use Rattle.machine.specs.declared.stop.Stop.{Stop}
-use Rattle.machine.specs.Runner.{changed}
-use Rattle.parts.specs.Shown.{queued, jobs}
-use Rattle.runner.specs.declared.progress.Progress.{Progress}
+use Rattle.parts.specs.Shown.{jobs}
 use Rattle.runner.specs.Standing.{standing}
 use Rattle.runner.proofs.Turns.{reads, ranged, aimed, touches, passes, call_touches, room_at}
 use Rattle.runner.proofs.progress.Progress.step.Goals as goal

@@ -3,7 +3,6 @@ use Rattle.std.proofs.Common.{◌≡◌, [], Some, None, sym, refl, ap, ◌∙�
 use Rattle.machine.specs.State.{bare}
 use Rattle.machine.specs.Calls.{Done}
 use Rattle.machine.proofs.Taken.{work_as_taken}
-use Rattle.parts.specs.Shown.{queued}
 use Rattle.runner.specs.Sound.{loaded, shown}
 use Rattle.runner.proofs.Sounds.{steady_run, follows}
 use Rattle.runner.proofs.Dones.{ends, ended}

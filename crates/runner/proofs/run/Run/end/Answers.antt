@@ -1,5 +1,5 @@
 -- The bench as it is, and the pending tasks of the table.
-use Rattle.std.proofs.Common.{◌≡◌, refl, ap, ◌∙◌}
+use Rattle.std.proofs.Common.{refl, ap, ◌∙◌}
 use Rattle.std.proofs.lemmas.List.Sorted.{IsPermutation-refl}
 use Rattle.machine.specs.Calls.{pending_numbers}
 use Rattle.parts.specs.Shown.{jobs, written}

@@ -1,4 +1,4 @@
-use Rattle.std.proofs.Common.{◌≡◌, length, take, drop}
+use Rattle.std.proofs.Common.{◌≡◌, take, drop}
 use Rattle.runner.proofs.Records.{Playing}
 use Rattle.runner.proofs.run.Run.make_all.Given as goal
 

@@ -1,5 +1,5 @@
 -- Phase by phase.
-use Rattle.std.proofs.Common.{◌≡◌, ℕ, Bool, true, false, [], length, Some, None, sym, refl, ap, ◌∙◌, subst, arith}
+use Rattle.std.proofs.Common.{◌≡◌, false, [], length, None, sym, refl, ap, ◌∙◌, subst}
 use Rattle.std.proofs.lemmas.Bool.{ne_eqb, both_ways}
 use Rattle.ecode.specs.Accepted.{Bounded}
 use Rattle.host.specs.Meaning.{Meaning}
@@ -196,7 +196,7 @@ returns g c =
     let list = c.list-pending.result in
     record {
       answer = ran_answer_is M ports mark law r c.requires rd none all g₀ said left h₁ g₁ same opens h₂ g₂ n came counted o going;
-      follows = follows M ports mark law r c.requires (Tick rd o) _ kept refl refl c.choose-running.ensures.same-mark
+      follows = follows M ports mark law r c.requires (Tick rd o) _ kept refl refl c.choose-running.ensures.same_mark
           (ran_state M ports mark law r c.requires rd none all g₀ said left h₁ g₁ same opens h₂ g₂ n came counted o going)
           (ran_asked M ports mark law r c.requires rd none all g₀ said left h₁ g₁ same opens h₂ g₂ n came counted o going list (c.list-pending.ensures w.ports) c.choose-running.ensures.choice);
       untouched = tt;
