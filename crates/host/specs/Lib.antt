@@ -7,4 +7,4 @@ pub mod Stops
 pub mod StopLaws
 pub mod Stopping
 pub mod Locals
-pub mod PitchAsHostLemmas
+pub mod PitchLaws

@@ -3,7 +3,7 @@ ghost use Rattle.std.specs.Prelude.{◌≡◌, ◌<◌, length, replicate, pos};
 ghost use Rattle.host.specs.PitchHost.{control, smoothed, copied, pitch_meaning};
 ghost use Rattle.ecode.proofs.Wired.{sheet_rules};
 ghost use Rattle.host.specs.Pitch.{pitch_sheet};
-ghost use Rattle.host.specs.PitchAsHostLemmas.{drives, works, drives_off, works_off, tests, tests_off};
+ghost use Rattle.host.specs.PitchLaws.{drives, works, drives_off, works_off, tests, tests_off};
 
 use crate::host::Host;
 use crate::pitch::sheet;

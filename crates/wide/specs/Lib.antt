@@ -1,3 +1,3 @@
 pub mod Wide
 pub mod WideHost
-pub mod WideAsHostLemmas
+pub mod WideLaws

@@ -4,7 +4,7 @@ ghost use Rattle.host.specs.PitchHost.{smoothed};
 ghost use Rattle.wide.specs.WideHost.{wide_meaning};
 ghost use Rattle.ecode.proofs.Wired.{sheet_rules};
 ghost use Rattle.wide.specs.Wide.{wide_sheet};
-ghost use Rattle.wide.specs.WideAsHostLemmas.{drives, works, drives_off, works_off, tests, tests_off};
+ghost use Rattle.wide.specs.WideLaws.{drives, works, drives_off, works_off, tests, tests_off};
 
 use crate::sheet::sheet;
 use ecode::sheet::Sheet;

@@ -1,3 +1,5 @@
+-- The pitch drive keeps the law of hosts: each driver and task is made of the building blocks. Proofs alone: nothing here is to be
+-- believed, and the impl of the host cites it.
 use Rattle.std.specs.Prelude.{◌≡◌, ℕ, zero, suc, ◌<◌, ◌≤◌, false, List, ℤ, slice_index, slice_set, refl}
 use Rattle.std.proofs.Common.{ap, ap₂, arith}
 use Rattle.host.specs.Meaning.{reading, Local, Reads}
