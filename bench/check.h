@@ -1,4 +1,7 @@
 /* The check of bench/check.c. */
+#ifndef CHECK_H
+#define CHECK_H
+
 #include <stddef.h>
 #include <stdint.h>
 
@@ -14,3 +17,5 @@ struct refusal {
 };
 
 struct refusal check(const struct sheet *s, const uint8_t *image, size_t len, const uint8_t *budgets, size_t budget_count);
+
+#endif

@@ -5,7 +5,7 @@
 #include <stdio.h>
 #include <stdlib.h>
 
-/* the checks of the library, exported by crates/capi */
+/* the checks of the library, exported by crates/capi_c */
 extern uint8_t pitch_check(const uint8_t *image, size_t len, const uint8_t *budgets, size_t count);
 extern uint8_t wide_check(const uint8_t *image, size_t len, const uint8_t *budgets, size_t count);
 

@@ -4,7 +4,7 @@
 #include <stdlib.h>
 #include <string.h>
 
-/* the checks of the library, exported by crates/capi */
+/* the checks of the library, exported by crates/capi_c */
 extern uint8_t pitch_check(const uint8_t *image, size_t len, const uint8_t *budgets, size_t count);
 extern uint8_t wide_check(const uint8_t *image, size_t len, const uint8_t *budgets, size_t count);
 

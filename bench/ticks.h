@@ -1,4 +1,4 @@
-/* The loop that bench/run counts, the same in C (bench/machine.h) and in Rattle (crates/capi).
+/* The loop that bench/run counts, the same in C (bench/machine.h) and in Rattle (crates/capi_c).
 
    Begin a run of the image with these budgets, on a fresh host (all ports 0), with the policy that takes the earliest
    deadline and the lower number on a tie. Let h be 0, and let mix(x) make h * 31 + x of h, in 64 bits that wrap.
@@ -20,7 +20,7 @@
 uint64_t c_ticks_pitch(const uint8_t *image, size_t n, const uint8_t *budgets, size_t m, uint32_t count);
 uint64_t c_ticks_wide(const uint8_t *image, size_t n, const uint8_t *budgets, size_t m, uint32_t count);
 
-/* exported by crates/capi, if RATTLE_TICKS is defined */
+/* exported by crates/capi_c, if RATTLE_TICKS is defined */
 #ifdef RATTLE_TICKS
 uint64_t pitch_ticks(const uint8_t *image, size_t n, const uint8_t *budgets, size_t m, uint32_t count);
 uint64_t wide_ticks(const uint8_t *image, size_t n, const uint8_t *budgets, size_t m, uint32_t count);

@@ -225,13 +225,13 @@ module _ (m : Meaning) (p : Contents) (ok : Lawful m) (range : (a : ℕ) → Ran
       ]
 
 -- on one host
-abbrev Agree-on : Contents → Meaning → Meaning → Ports → Ports → List RunCall → List RunCall → Type 0
-Agree-on p m m' v v' calls calls' = readings_of m calls ≡ readings_of m' calls'
+abbrev AgreeOn : Contents → Meaning → Meaning → Ports → Ports → List RunCall → List RunCall → Type 0
+AgreeOn p m m' v v' calls calls' = readings_of m calls ≡ readings_of m' calls'
     → Going (after m p calls (fresh p v)) → Going (after m' p calls' (fresh p v'))
     → (x : ℕ) → Port m.sheet x → kind m.sheet x ≡ Driver
     → reading (after m p calls (fresh p v)).ports x ≡ reading (after m' p calls' (fresh p v')).ports x
 
-agree_one : (m : Meaning) (p : Contents) (v : Ports) (calls calls' : List RunCall) → Begins m p v → Agree-on p m m v v calls calls'
+agree_one : (m : Meaning) (p : Contents) (v : Ports) (calls calls' : List RunCall) → Begins m p v → AgreeOn p m m v v calls calls'
 agree_one m p v calls calls' b e g g' x px d =
     let ok = b.lawful in
     let range = ranged m p b.accepted in
@@ -248,5 +248,5 @@ one_host m m' v v' l = λ i. record { sheet = l.sheets i; drive = λ d xs. l.dri
 
 pub agree : DriverPortsAgree
 agree m m' p v v' calls calls' b l =
-    subst (λ (n : Meaning). Agree-on p m n v v' calls calls') (one_host m m' v v' l)
-    (subst (λ (w : Ports). Agree-on p m m v w calls calls') l.ports (agree_one m p v calls calls' b))
+    subst (λ (n : Meaning). AgreeOn p m n v v' calls calls') (one_host m m' v v' l)
+    (subst (λ (w : Ports). AgreeOn p m m v w calls calls') l.ports (agree_one m p v calls calls' b))

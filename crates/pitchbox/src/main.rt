@@ -23,7 +23,7 @@ use crate::run::{Failure, Outcome, run_words};
 use std::process::ExitCode;
 use std::{env, io};
 
-// The status is 1 of a refused image or of a command that failed.
+// The status: 1 where an image is refused or a command fails.
 fn run_arguments(rt: &HostRuntime) -> io::Result<ExitCode> {
     let given: Vec<String> = env::args(rt)?.skip(1).collect(rt.alloc())?;
     let mut words = Vec::new(rt.alloc());
