@@ -453,6 +453,7 @@ stays_small mark m p v calls b fair =
     } in
     calls_fit m p b.lawful ty b.accepted.load.ticks mark calls (fresh p v) begun fair
 
+-- either number of a stop is at most 15
 fifteen_at_most : (n : ℕ) → (n ≡ 14) ⊎ (n ≡ 15) → n ≤ 15
 fifteen_at_most n (inl e) = omega (arith, e)
 fifteen_at_most n (inr e) = omega (arith, e)
