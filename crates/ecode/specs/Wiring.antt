@@ -4,9 +4,12 @@
 --   all_below     every number below a bound passes a test
 --   within        every member of every set is a port of a wanted kind
 --   apart         no two of the sets have a member in common
-use Rattle.std.specs.Prelude.{ℕ, zero, suc, ◌/◌, ◌%◌, ◌^◌, Bool, true, false, not, ◌&&◌, ◌||◌, List, [], ◌∷◌, ◌==◌, bit_and, nat_lt, slice_index_or}
+--   writes_in, reads_in, owns_in, sees_in    the sets of one sort in a table of drivers or of tasks
+use Rattle.std.specs.Prelude.{ℕ, zero, suc, ◌/◌, ◌%◌, ◌^◌, Bool, true, false, not, ◌&&◌, ◌||◌, List, [], ◌∷◌, ◌==◌, bit_and, map, nat_lt, slice_index_or}
 use Rattle.ecode.specs.declared.port.PortKind.{PortKind}
 use Rattle.ecode.specs.declared.port.PortKind.TheVariants.{Sensor, Driver, Task}
+use Rattle.ecode.specs.declared.sheet.DriverPorts.{DriverPorts}
+use Rattle.ecode.specs.declared.sheet.TaskPorts.{TaskPorts}
 
 -- bit k of the mask z is set
 abbrev pub has : ℕ → ℕ → Bool
@@ -55,3 +58,17 @@ disjoint y z = bit_and y z == 0
 abbrev pub apart : List ℕ → Bool
 apart [] = true
 apart (z ∷ zs) = every (disjoint z) zs && apart zs
+
+-- the ports that each driver of a table writes, and those that it reads
+abbrev pub writes_in : List DriverPorts → List ℕ
+writes_in drivers = map (λ d. d.writes) drivers
+
+abbrev pub reads_in : List DriverPorts → List ℕ
+reads_in drivers = map (λ d. d.reads) drivers
+
+-- the ports that each task of a table owns, and those that it reads
+abbrev pub owns_in : List TaskPorts → List ℕ
+owns_in tasks = map (λ t. t.owns) tasks
+
+abbrev pub sees_in : List TaskPorts → List ℕ
+sees_in tasks = map (λ t. t.sees) tasks
