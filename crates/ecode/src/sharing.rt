@@ -9,8 +9,8 @@ pub fn sharing(sheet: &Sheet, d: u8, t: u8) -> bool
     ensures { result ≡ shares sheet.now d t }
 {
     let (Some(driver), Some(task)) = (
-        sheet.driver_ports.get(d as usize),
-        sheet.task_ports.get(t as usize),
+        sheet.driver_ports.get(usize::from(d)),
+        sheet.task_ports.get(usize::from(t)),
     ) else {
         return false;
     };
