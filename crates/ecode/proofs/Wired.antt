@@ -11,7 +11,8 @@ use Rattle.ecode.specs.declared.port.PortKind.TheVariants.{Sensor, Driver, Task}
 use Rattle.ecode.specs.declared.sheet.DriverPorts.{DriverPorts}
 use Rattle.ecode.specs.declared.sheet.Sheet.{Sheet}
 use Rattle.ecode.specs.declared.sheet.TaskPorts.{TaskPorts}
-use Rattle.ecode.specs.Wiring.{writes_in, reads_in, owns_in, sees_in, has, all_below, every, is_driver, is_task, not_driver, not_task, fits_ports, within, disjoint, apart}
+use Rattle.std.specs.List.{list_all}
+use Rattle.ecode.specs.Wiring.{writes_in, reads_in, owns_in, sees_in, has, all_below, is_driver, is_task, not_driver, not_task, fits_ports, within, disjoint, apart}
 use Rattle.ecode.specs.Sheets.{In, SheetRules}
 use Rattle.ecode.proofs.Lists.{all_at}
 use Rattle.ecode.proofs.Meets.{none_shared}
@@ -70,18 +71,18 @@ other_kind test k bad e h q =
     clash false e t = cc
 
 -- a set apart from all of the others has no member of any
-none_of : (z : ℕ) (sets : List ℕ) (i p : ℕ) → every (disjoint z) sets ≡ true → In p z → In p (get_or sets i 0) → ⊥
+none_of : (z : ℕ) (sets : List ℕ) (i p : ℕ) → list_all (disjoint z) sets ≡ true → In p z → In p (get_or sets i 0) → ⊥
 none_of z [] i p e m n = empty p n
 none_of z (y ∷ sets) zero p e m n =
-    none_shared z y p (eqb-true (bit_and z y) 0 (and_parts (disjoint z y) (every (disjoint z) sets) e).0) m n
-none_of z (y ∷ sets) (suc i) p e m n = none_of z sets i p (and_parts (disjoint z y) (every (disjoint z) sets) e).1 m n
+    none_shared z y p (eqb-true (bit_and z y) 0 (and_parts (disjoint z y) (list_all (disjoint z) sets) e).0) m n
+none_of z (y ∷ sets) (suc i) p e m n = none_of z sets i p (and_parts (disjoint z y) (list_all (disjoint z) sets) e).1 m n
 
 once : (sets : List ℕ) (t u p : ℕ) → apart sets ≡ true → In p (get_or sets t 0) → In p (get_or sets u 0) → t ≡ u
 once [] t u p e m n = absurd (empty p m)
 once (z ∷ sets) zero zero p e m n = refl
-once (z ∷ sets) zero (suc u) p e m n = absurd (none_of z sets u p (and_parts (every (disjoint z) sets) (apart sets) e).0 m n)
-once (z ∷ sets) (suc t) zero p e m n = absurd (none_of z sets t p (and_parts (every (disjoint z) sets) (apart sets) e).0 n m)
-once (z ∷ sets) (suc t) (suc u) p e m n = ap suc (once sets t u p (and_parts (every (disjoint z) sets) (apart sets) e).1 m n)
+once (z ∷ sets) zero (suc u) p e m n = absurd (none_of z sets u p (and_parts (list_all (disjoint z) sets) (apart sets) e).0 m n)
+once (z ∷ sets) (suc t) zero p e m n = absurd (none_of z sets t p (and_parts (list_all (disjoint z) sets) (apart sets) e).0 n m)
+once (z ∷ sets) (suc t) (suc u) p e m n = ap suc (once sets t u p (and_parts (list_all (disjoint z) sets) (apart sets) e).1 m n)
 
 pub sheet_rules : (s : Sheet) → SheetRules s
 sheet_rules s = record {

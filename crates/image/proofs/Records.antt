@@ -6,7 +6,7 @@ use Rattle.std.proofs.lemmas.List.{get_or-drop, drop-drop}
 use Rattle.std.proofs.lemmas.Bool.{cond-true, cond-false}
 use Rattle.ecode.specs.Rules.{Rule, broken}
 use Rattle.ecode.specs.Instructions.{aimed}
-use Rattle.ecode.specs.Image.{instruction_in, cell_of, cell_in, row_fine, row_in, line, record_at}
+use Rattle.ecode.specs.Image.{instruction_in, cell_of, cell_in, row_fine, row_in, line}
 use Rattle.ecode.specs.Verdict.{record_rules}
 use Rattle.ecode.specs.declared.sheet.Sheet.{Sheet}
 use Rattle.ecode.specs.declared.code.Cell.{Cell}

@@ -15,6 +15,7 @@ pub fn read_listing(sheet: &Sheet, image: &[u8], trailer: Trailer) -> Result<Lis
 {
     let (records, _) = image.as_chunks::<20>();
     let mut lines = [BLANK; 200];
+    // by its address: a proof sees nothing of what a zip with iter_mut writes
     for (a, record) in records.iter().enumerate() {
         lines[a] = read_line(sheet, trailer.count, a as u16, record)?;
     }

@@ -58,6 +58,7 @@ fn read_row(tasks: u8, bytes: &[u8]) -> Option<[Cell; 8]>
 {
     let (pairs, _) = bytes.as_chunks::<2>();
     let mut row = [Cell::NotHeld; 8];
+    // by its number: a proof sees nothing of what a zip with iter_mut writes
     for (t, [consumed, remaining]) in pairs.iter().enumerate() {
         row[t] = read_cell(tasks, t as u8, *consumed, *remaining)?;
     }

@@ -1,11 +1,10 @@
 use Rattle.std.proofs.Common.{◌≡◌, ℕ, ◌/◌, ◌<◌, [], length, get_or, Ok, Err, sym, refl, ap, ◌∙◌, subst, arith, length-set}
-use Rattle.std.proofs.lemmas.Result.{err_from_is_err_and}
 use Rattle.ecode.specs.Rules.{broken, each, Judged}
 use Rattle.ecode.specs.Image.{line, record_at}
 use Rattle.ecode.specs.Typing.{blank}
 use Rattle.ecode.specs.Verdict.{layout_rules, record_rules}
 use Rattle.ecode.specs.Parts.{FromRecords}
-use Rattle.ecode.proofs.Firsts.{each_none, each_more, each_at}
+use Rattle.ecode.proofs.Firsts.{each_none, each_more, each_at, judged_stop}
 use Rattle.ecode.proofs.Lists.{fill_more, filled_front}
 use Rattle.image.proofs.Records.{chunk_at}
 use Rattle.image.proofs.listing.read_listing.Goals as goal
@@ -38,11 +37,10 @@ returns-in_err-lines c =
     let a = c.loop-a.a in
     let f = λ (a : ℕ). record_rules s n a (record_at im a) in
     let x = c.in_err-lines.field-0.0 in
-    let p = err_from_is_err_and c.from_residual.result c.from_residual.ensures.1 in
     let here = ap (λ r. get_or r a []) c.as_chunks.ensures.front ∙ chunk_at 20 (length im / 20) im a [] (omega arith) in
     let got = subst (λ bs. Judged (record_rules s n a bs) (λ l. l ≡ line s bs) (Err x)) here c.in_err-lines.ensures in
-    let at = each_at f a n x (omega (arith, c.requires.long)) c.loop-a.invariant.1 got in
-    subst (λ r. Judged (layout_rules s im n) (FromRecords s im c.args.trailer) r) (sym (p.1 ∙ ap Err p.2)) at
+    judged_stop (layout_rules s im n) (FromRecords s im c.args.trailer) c.from_residual.result x c.from_residual.ensures.1
+    (each_at f a n x (omega (arith, c.requires.long)) c.loop-a.invariant.1 got)
 
 pub returns : goal.returns
 returns c =

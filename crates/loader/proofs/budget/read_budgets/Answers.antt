@@ -1,4 +1,4 @@
-use Rattle.std.proofs.Common.{◌≡◌, ℕ, ◌≤◌, true, false, cond, eqb, length, get_or, take, Some, None, ap, ◌∙◌, arith, rules, take_all}
+use Rattle.std.proofs.Common.{◌≡◌, ℕ, true, false, cond, eqb, length, get_or, take, Some, None, ap, ◌∙◌, arith, rules, take_all}
 use borrow.Author.Tests.{tests}
 use Rattle.std.proofs.lemmas.Bool.{cond-true, eq-eqb}
 use Rattle.std.proofs.lemmas.List.{take-append-le}
@@ -35,6 +35,6 @@ returns-in-None c =
     IsFirst-from_position _ _ None (λ b. is_ticks b ≡ false) (λ b. is_ticks b ≡ true) c.in-None.ensures.ran (YieldsList-from_slice bud cc)
     (λ x q k. search (rules, tests)) (λ x q k. search (rules, tests)) in (
       cond-true (eqb (length bud) n) (broken (each n f)) (Some (Budget n)) long
-      ∙ each_clean f n (λ k h. ap (λ b. cond b None (Some (Budget k))) (all k 0 (omega arith) (omega arith))),
+          ∙ each_clean f n (λ k h. ap (λ b. cond b None (Some (Budget k))) (all k 0 (omega arith) (omega arith))),
       ap (take n) c.padded.ensures ∙ take-append-le n bud _ (omega arith) ∙ take_all n bud (omega arith),
     )

@@ -1,7 +1,6 @@
-use Rattle.std.proofs.Common.{◌≤◌, length, ◌∙◌, rules}
-use borrow.Author.Tests.{tests}
-use Rattle.std.proofs.lemmas.Iterator.Adapters.{YieldsList-from_rev_slice}
-use Rattle.std.proofs.lemmas.Iterator.Consumers.{fold_from_yields_List}
+use Rattle.std.proofs.Common.{◌≡◌, ◌≤◌, reverse, length, ◌∙◌, rules}
+use Rattle.std.proofs.iter.runs.Made.{chains}
+use Rattle.std.specs.List.{fold}
 use Rattle.typing.proofs.Sets.{with_next, held_folded}
 use Rattle.typing.proofs.row.held_tasks.Goals as goal
 
@@ -9,5 +8,5 @@ pub returns : goal.returns
 returns c =
     let row = c.args.row.now in
     let few : length row ≤ 8 = search rules in
-    fold_from_yields_List _ with_next 0 _ c.fold.ensures.ran (YieldsList-from_rev_slice row cc) (λ a x b q k. search (rules, tests))
-    ∙ held_folded row few
+    let run : c.fold.result ≡ fold with_next 0 (reverse row) = search (rules, chains) in
+    run ∙ held_folded row few
