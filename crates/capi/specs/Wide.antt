@@ -6,32 +6,41 @@ use Rattle.std.proofs.Common.{lit≤}
 use Rattle.ecode.specs.declared.port.PortKind.{PortKind}
 use Rattle.ecode.specs.declared.port.PortKind.TheVariants.{Sensor, Driver, Task}
 use Rattle.ecode.specs.declared.sheet.Sheet.{Sheet}
-use Rattle.ecode.specs.Wiring.{all_below, within, is_driver, is_task, not_driver, not_task}
+use Rattle.ecode.specs.declared.sheet.DriverPorts.{DriverPorts}
+use Rattle.ecode.specs.declared.sheet.TaskPorts.{TaskPorts}
+use Rattle.ecode.specs.Sheets.{driver, task}
+use Rattle.ecode.specs.Wiring.{writes_in, reads_in, owns_in, sees_in, all_below, within, is_driver, is_task, not_driver, not_task}
 
 abbrev pub kinds_table : List PortKind
 kinds_table = replicate 16 Driver ++ (replicate 8 Task ++ replicate 8 Sensor)
 
--- the sets of one port: 0 to 7, and 16 to 23
-abbrev pub low : List ℕ
-low = 0x01 ∷ 0x02 ∷ 0x04 ∷ 0x08 ∷ 0x10 ∷ 0x20 ∷ 0x40 ∷ 0x80 ∷ []
+-- the ports that each driver writes, and those that it reads
+abbrev pub drivers_table : List DriverPorts
+drivers_table =
+    driver 0x01 0x010000 ∷ driver 0x02 0x020000 ∷ driver 0x04 0x040000 ∷ driver 0x08 0x080000 ∷
+    driver 0x10 0x100000 ∷ driver 0x20 0x200000 ∷ driver 0x40 0x400000 ∷ driver 0x80 0x800000 ∷
+    replicate 24 (driver 0 0)
 
-abbrev pub high : List ℕ
-high = 0x010000 ∷ 0x020000 ∷ 0x040000 ∷ 0x080000 ∷ 0x100000 ∷ 0x200000 ∷ 0x400000 ∷ 0x800000 ∷ []
+-- the ports that each task owns, and those that it reads
+abbrev pub tasks_table : List TaskPorts
+tasks_table =
+    task 0x010000 0x01 ∷ task 0x020000 0x02 ∷ task 0x040000 0x04 ∷ task 0x080000 0x08 ∷ task 0x100000 0x10 ∷
+    task 0x200000 0x20 ∷ task 0x400000 0x40 ∷ task 0x800000 0x80 ∷ []
 
 -- the tables keep the rules of a sheet: each is computed
-pub written : within 24 kinds_table is_driver (low ++ replicate 24 0) ≡ true
+pub written : within 24 kinds_table is_driver (writes_in drivers_table) ≡ true
 unfolding all_below
 written = refl
 
-pub read : within 24 kinds_table not_driver (high ++ replicate 24 0) ≡ true
+pub read : within 24 kinds_table not_driver (reads_in drivers_table) ≡ true
 unfolding all_below
 read = refl
 
-pub owned : within 24 kinds_table is_task high ≡ true
+pub owned : within 24 kinds_table is_task (owns_in tasks_table) ≡ true
 unfolding all_below
 owned = refl
 
-pub seen : within 24 kinds_table is_driver low ≡ true
+pub seen : within 24 kinds_table is_driver (sees_in tasks_table) ≡ true
 unfolding all_below
 seen = refl
 
@@ -44,11 +53,9 @@ wide_sheet = record {
   ports = 24;
   kinds = kinds_table;
   drivers = 8;
-  writes = low ++ replicate 24 0;
-  reads = high ++ replicate 24 0;
+  driver_ports = drivers_table;
   tasks = 8;
-  owns = high;
-  sees = low;
+  task_ports = tasks_table;
   conditions = 1;
   looks = replicate 16 0;
   has_ports = lit≤ tt;

@@ -3,9 +3,10 @@ ghost use Rattle.std.specs.Prelude.{◌≡◌};
 ghost use Rattle.capi.specs.Wide.{wide_sheet};
 
 use ecode::port::PortKind;
-use ecode::sheet::Sheet;
+use ecode::sheet::{DriverPorts, Sheet, TaskPorts};
+use ecode::table::padded;
 
-const KINDS: [PortKind; 32] = [
+const KINDS: [PortKind; 24] = [
     PortKind::Driver,
     PortKind::Driver,
     PortKind::Driver,
@@ -30,123 +31,89 @@ const KINDS: [PortKind; 32] = [
     PortKind::Task,
     PortKind::Task,
     PortKind::Task,
-    PortKind::Sensor,
-    PortKind::Sensor,
-    PortKind::Sensor,
-    PortKind::Sensor,
-    PortKind::Sensor,
-    PortKind::Sensor,
-    PortKind::Sensor,
-    PortKind::Sensor,
 ];
 
-const LOW: [u32; 32] = [
-    1 << 0,
-    1 << 1,
-    1 << 2,
-    1 << 3,
-    1 << 4,
-    1 << 5,
-    1 << 6,
-    1 << 7,
-    0,
-    0,
-    0,
-    0,
-    0,
-    0,
-    0,
-    0,
-    0,
-    0,
-    0,
-    0,
-    0,
-    0,
-    0,
-    0,
-    0,
-    0,
-    0,
-    0,
-    0,
-    0,
-    0,
-    0,
+const DRIVERS: [DriverPorts; 8] = [
+    DriverPorts {
+        writes: 1 << 0,
+        reads: 1 << 16,
+    },
+    DriverPorts {
+        writes: 1 << 1,
+        reads: 1 << 17,
+    },
+    DriverPorts {
+        writes: 1 << 2,
+        reads: 1 << 18,
+    },
+    DriverPorts {
+        writes: 1 << 3,
+        reads: 1 << 19,
+    },
+    DriverPorts {
+        writes: 1 << 4,
+        reads: 1 << 20,
+    },
+    DriverPorts {
+        writes: 1 << 5,
+        reads: 1 << 21,
+    },
+    DriverPorts {
+        writes: 1 << 6,
+        reads: 1 << 22,
+    },
+    DriverPorts {
+        writes: 1 << 7,
+        reads: 1 << 23,
+    },
 ];
 
-const HIGH: [u32; 32] = [
-    1 << 16,
-    1 << 17,
-    1 << 18,
-    1 << 19,
-    1 << 20,
-    1 << 21,
-    1 << 22,
-    1 << 23,
-    0,
-    0,
-    0,
-    0,
-    0,
-    0,
-    0,
-    0,
-    0,
-    0,
-    0,
-    0,
-    0,
-    0,
-    0,
-    0,
-    0,
-    0,
-    0,
-    0,
-    0,
-    0,
-    0,
-    0,
+const TASKS: [TaskPorts; 8] = [
+    TaskPorts {
+        owns: 1 << 16,
+        sees: 1 << 0,
+    },
+    TaskPorts {
+        owns: 1 << 17,
+        sees: 1 << 1,
+    },
+    TaskPorts {
+        owns: 1 << 18,
+        sees: 1 << 2,
+    },
+    TaskPorts {
+        owns: 1 << 19,
+        sees: 1 << 3,
+    },
+    TaskPorts {
+        owns: 1 << 20,
+        sees: 1 << 4,
+    },
+    TaskPorts {
+        owns: 1 << 21,
+        sees: 1 << 5,
+    },
+    TaskPorts {
+        owns: 1 << 22,
+        sees: 1 << 6,
+    },
+    TaskPorts {
+        owns: 1 << 23,
+        sees: 1 << 7,
+    },
 ];
-
-const OWNS: [u32; 8] = [
-    1 << 16,
-    1 << 17,
-    1 << 18,
-    1 << 19,
-    1 << 20,
-    1 << 21,
-    1 << 22,
-    1 << 23,
-];
-
-const SEES: [u32; 8] = [
-    1 << 0,
-    1 << 1,
-    1 << 2,
-    1 << 3,
-    1 << 4,
-    1 << 5,
-    1 << 6,
-    1 << 7,
-];
-
-const LOOKS: [u32; 16] = [0; 16];
 
 pub fn sheet() -> Sheet
     ensures { result ≡ wide_sheet }
 {
     Sheet {
         ports: 24,
-        kinds: KINDS,
+        kinds: padded(&KINDS, PortKind::Sensor),
         drivers: 8,
-        writes: LOW,
-        reads: HIGH,
+        driver_ports: padded(&DRIVERS, DriverPorts::NONE),
         tasks: 8,
-        owns: OWNS,
-        sees: SEES,
+        task_ports: TASKS,
         conditions: 1,
-        looks: LOOKS,
+        looks: [0; 16],
     }
 }

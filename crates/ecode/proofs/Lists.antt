@@ -1,5 +1,6 @@
 -- Lists filled place by place, and tests of every number below a bound. Assumes nothing.
-use Rattle.std.proofs.Common.{◌≡◌, ℕ, zero, suc, ◌+◌, ◌<◌, ◌≤◌, Bool, true, false, not, ◌&&◌, ◌||◌, List, length, get_or, take, set, sym, refl, ap, ◌∙◌, subst, ap₂, inl, inr, add-one, arith, length-take, get_or-set_other, get_or-take, get_or-set_same, ext_get_or}
+use Rattle.std.specs.List.{list_all}
+use Rattle.std.proofs.Common.{[], ◌∷◌, ◌≡◌, ℕ, zero, suc, ◌+◌, ◌<◌, ◌≤◌, Bool, true, false, not, ◌&&◌, ◌||◌, List, length, get_or, take, set, sym, refl, ap, ◌∙◌, ap₂, inl, inr, add-one, arith, length-take, get_or-set_other, get_or-take, get_or-set_same, ext_get_or}
 use native.Mathlib.Decide.{le_ind}
 use Rattle.std.proofs.lemmas.Bool.{cases_eq, and_from, and_parts, and_left}
 use Rattle.ecode.specs.Wiring.{all_below}
@@ -81,6 +82,29 @@ pub all_or : (n : ℕ) (b : Bool) (f : ℕ → Bool) → all_below n (λ t. b ||
 all_or n true f = all_from (λ _. true) n (λ _ _. refl)
 all_or n false f = refl
 
+-- the first of the numbers aside
+all_front : (n : ℕ) (f : ℕ → Bool) → all_below (suc n) f ≡ (f 0 && all_below n (λ k. f (suc k)))
+unfolding all_below
+all_front zero f = go (f 0)
+  where
+    go : (b : Bool) → (true && b) ≡ (b && true)
+    go true = refl
+    go false = refl
+all_front (suc n) f = ap (λ b. b && f (suc n)) (all_front n f) ∙ go (f 0) (all_below n (λ k. f (suc k))) (f (suc n))
+  where
+    go : (a b c : Bool) → ((a && b) && c) ≡ (a && (b && c))
+    go true b c = refl
+    go false b c = refl
+
+all_listed : {X : Type 0} (f : X → Bool) (xs : List X) (d : X) → list_all f xs ≡ all_below (length xs) (λ t. f (get_or xs t d))
+unfolding all_below
+all_listed f [] d = refl
+all_listed f (x ∷ xs) d = ap (λ b. f x && b) (all_listed f xs d) ∙ sym (all_front (length xs) (λ t. f (get_or (x ∷ xs) t d)))
+
+-- a test of every element of a list, as one of every number
+pub all_places : {X : Type 0} (f : X → Bool) (xs : List X) (d : X) (n : ℕ) (g : ℕ → Bool) → length xs ≡ n → ((t : ℕ) → t < n → f (get_or xs t d) ≡ g t) → list_all f xs ≡ all_below n g
+all_places f xs d n g len at = all_listed f xs d ∙ ap (λ m. all_below m (λ t. f (get_or xs t d))) len ∙ all_cong n (λ t. f (get_or xs t d)) g at
+
 -- a test that is asked for counts
 pub asked : (b x : Bool) → true ≡ b → x ≡ (not b || x)
 asked true x e = refl
@@ -90,14 +114,3 @@ pub filled_front : {X : Type 0} (n : ℕ) (Q : ℕ → X) (xs : List X) (d : X) 
 filled_front n Q xs d len at =
     let long : length (take n xs) ≡ n = simp length-take (omega arith) in
     filled n Q (take n xs) d long (λ k h. get_or-take n xs k d h ∙ at k h)
-
--- each place in its turn is changed
-module _ {X : Type 0} (d : X) (xs ys : List X) (i : ℕ) (h : i < length xs) where
-  pub change_here : (P : ℕ → X → Type 0) (v : X) → ((k : ℕ) → k < i → P k (get_or xs k d)) → P i v → (k : ℕ) → k < i + 1 → P k (get_or (set xs i v) k d)
-  change_here P v below at k lt = elim (cases_eq k i) [
-    | inl s ↦ subst (λ j. P j (get_or (set xs i v) j d)) (sym s) (subst (P i) (sym (get_or-set_same xs i v d h)) at)
-    | inr n ↦ subst (P k) (sym (get_or-set_other xs i k v d n)) (below k (omega arith))
-  ]
-
-  pub change_not : (v : X) → ((k : ℕ) → i ≤ k → get_or xs k d ≡ get_or ys k d) → (k : ℕ) → i + 1 ≤ k → get_or (set xs i v) k d ≡ get_or ys k d
-  change_not v above k le = let ne : (k ≡ i → ⊥) = λ e. omega arith in get_or-set_other xs i k v d ne ∙ above k (omega arith)

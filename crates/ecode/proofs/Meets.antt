@@ -1,12 +1,12 @@
 -- Two masks meet exactly when they have a member in common. Assumes nothing.
-use Rattle.std.proofs.Common.{◌≡◌, ℕ, zero, suc, ◌/◌, ◌%◌, ◌^◌, ◌≤◌, min, not, eqb, get_or, Decides, sym, ap, ◌∙◌, inl, inr, div-one, one-add, arith, pow_pos, shr-shr}
+use Rattle.std.proofs.Common.{◌≡◌, ℕ, zero, suc, ◌/◌, ◌%◌, ◌^◌, ◌≤◌, min, not, eqb, Decides, sym, ap, ◌∙◌, inl, inr, div-one, one-add, arith, pow_pos, shr-shr}
 use native.Mathlib.Nat.{div-eq_of_lt}
 use lib.Arith.{half_le}
 use lib.Bits.{bit_and, and_step, and_shr, and_zero_l}
 use Rattle.std.proofs.lemmas.Bool.{cases_eq}
 use Rattle.std.proofs.lemmas.Bool.Decides.{Decides-eqb, Decides-not, Decides-like, Decides-or}
 use Rattle.ecode.specs.declared.sheet.Sheet.{Sheet}
-use Rattle.ecode.specs.Sheets.{shares, In, Shares}
+use Rattle.ecode.specs.Sheets.{shares, In, Shares, owns_of, reads_of, sees_of, writes_of}
 
 -- sets with nothing in common share no member
 pub none_shared : (a b p : ℕ) → bit_and a b ≡ 0 → In p a → In p b → ⊥
@@ -36,4 +36,4 @@ meets a b = Decides-like (not (eqb (bit_and a b) 0)) (meeting a a b (omega arith
     (Decides-not (eqb (bit_and a b) 0) (Decides-eqb (bit_and a b) 0))
 
 pub tells_shares : (s : Sheet) (d t : ℕ) → Decides (shares s d t) (Shares s d t)
-tells_shares s d t = Decides-or _ _ (meets (get_or s.reads d 0) (get_or s.owns t 0)) (meets (get_or s.writes d 0) (get_or s.sees t 0))
+tells_shares s d t = Decides-or _ _ (meets (reads_of s d) (owns_of s t)) (meets (writes_of s d) (sees_of s t))

@@ -1,10 +1,11 @@
 -- An image read as bytes: N records of 20, then a trailer of 8.
+--   trailer_of      the last 8 bytes
 --   trailer_byte    a byte of the trailer; told, size and entry are read off it
 --   record_at       the 20 bytes of the record at an address
 --   decoded         the instruction that an opcode and its operands make, if they make one
 --   cell_of         what a row's pair says of a task, if it says anything
 --   lines           the lines of the first records
-use Rattle.std.specs.Prelude.{ℕ, zero, suc, ◌+◌, ◌-◌, ◌*◌, ◌/◌, ◌^◌, Bool, cond, ◌&&◌, List, [], ◌∷◌, length, take, drop, is_some, Some, None, Option, ◌==◌, nat_le, nat_lt, slice_index}
+use Rattle.std.specs.Prelude.{ℕ, zero, suc, ◌+◌, ◌-◌, ◌*◌, ◌/◌, ◌^◌, Bool, if◌then◌else◌, cond, ◌&&◌, List, [], ◌∷◌, length, take, drop, is_some, Some, None, Option, ◌==◌, nat_le, nat_lt, slice_index}
 use Rattle.std.specs.Option.{unwrap_or}
 use Rattle.ecode.specs.declared.sheet.Sheet.{Sheet}
 use Rattle.ecode.specs.declared.code.Cell.{Cell}
@@ -14,7 +15,11 @@ use Rattle.ecode.specs.declared.code.Instruction.TheVariants.{Call, Release, Fut
 use Rattle.ecode.specs.declared.code.Line.{Line}
 use Rattle.ecode.specs.Wiring.{all_below}
 
--- byte i of the trailer, which is the last 8 bytes
+-- the trailer, which is the last 8 bytes, if there are as many
+abbrev pub trailer_of : List ℕ → Option (List ℕ)
+trailer_of im = if nat_le 8 (length im) then Some (drop (length im - 8) im) else None
+
+-- byte i of the trailer
 abbrev pub trailer_byte : List ℕ → ℕ → ℕ
 trailer_byte im i = slice_index im (length im - 8 + i)
 

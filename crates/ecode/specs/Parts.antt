@@ -1,6 +1,6 @@
 -- What the parts of the check promise each other, from the trailer up to the load. The check itself promises `Checked`.
 --   FromTrailer, FromRecords, FromImage   a trailer, a listing is what the image says
---   Small, Sound                          the pairs of a listing fit the arithmetic on them
+--   total, Small, Sound                   the pairs of a listing fit the arithmetic on them
 use Rattle.std.specs.Prelude.{◌≡◌, ℕ, ◌+◌, ◌*◌, ◌<◌, ◌≤◌, List, length, take, slice_index_or}
 use Rattle.ecode.specs.declared.sheet.Sheet.{Sheet}
 use Rattle.ecode.specs.declared.code.Cell.{Cell}
@@ -39,11 +39,15 @@ pub record FromBytes (s : Sheet) (im bud : List ℕ) (p : Program) : Type 0 wher
   pub listing : FromImage s im p.listing
   pub budgets : take s.tasks p.budgets ≡ bud
 
+-- what a released pair adds up to, 0 where the task is not released
+abbrev pub total : Cell → ℕ
+total NotHeld = 0
+total Idle = 0
+total (Released c r) = c + r
+
 -- a released pair as a record can hold it
 abbrev pub Small : Cell → Type 0
-Small NotHeld = Unit {0}
-Small Idle = Unit {0}
-Small (Released c r) = c + r ≤ 240
+Small c = total c ≤ 240
 
 -- every pair of every line
 abbrev pub Sound : List Line → Type 0

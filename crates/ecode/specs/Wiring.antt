@@ -4,9 +4,13 @@
 --   all_below     every number below a bound passes a test
 --   within        every member of every set is a port of a wanted kind
 --   apart         no two of the sets have a member in common
-use Rattle.std.specs.Prelude.{ℕ, zero, suc, ◌/◌, ◌%◌, ◌^◌, Bool, true, false, not, ◌&&◌, ◌||◌, List, [], ◌∷◌, ◌==◌, bit_and, nat_lt, slice_index_or}
+--   writes_in, reads_in, owns_in, sees_in    the sets of one sort in a table of drivers or of tasks
+use Rattle.std.specs.Prelude.{ℕ, zero, suc, ◌/◌, ◌%◌, ◌^◌, Bool, true, false, not, ◌&&◌, ◌||◌, List, [], ◌∷◌, ◌==◌, bit_and, map, nat_lt, slice_index_or}
+use Rattle.std.specs.List.{list_all}
 use Rattle.ecode.specs.declared.port.PortKind.{PortKind}
 use Rattle.ecode.specs.declared.port.PortKind.TheVariants.{Sensor, Driver, Task}
+use Rattle.ecode.specs.declared.sheet.DriverPorts.{DriverPorts}
+use Rattle.ecode.specs.declared.sheet.TaskPorts.{TaskPorts}
 
 -- bit k of the mask z is set
 abbrev pub has : ℕ → ℕ → Bool
@@ -16,11 +20,6 @@ has z k = z / 2 ^ k % 2 == 1
 unfoldable pub all_below : ℕ → (ℕ → Bool) → Bool
 all_below zero f = true
 all_below (suc n) f = all_below n f && f n
-
--- every element passes
-abbrev pub every : {X : Type 0} → (X → Bool) → List X → Bool
-every f [] = true
-every f (x ∷ xs) = f x && every f xs
 
 -- the kinds of port that a set may be limited to
 abbrev pub is_driver : PortKind → Bool
@@ -45,7 +44,7 @@ fits_ports ports kinds wanted z = nat_lt z (2 ^ ports) && all_below ports (λ p.
 
 -- the same of every set
 abbrev pub within : ℕ → List PortKind → (PortKind → Bool) → List ℕ → Bool
-within ports kinds wanted sets = every (fits_ports ports kinds wanted) sets
+within ports kinds wanted sets = list_all (fits_ports ports kinds wanted) sets
 
 -- two sets have no member in common
 abbrev pub disjoint : ℕ → ℕ → Bool
@@ -54,4 +53,18 @@ disjoint y z = bit_and y z == 0
 -- no two sets have a member in common
 abbrev pub apart : List ℕ → Bool
 apart [] = true
-apart (z ∷ zs) = every (disjoint z) zs && apart zs
+apart (z ∷ zs) = list_all (disjoint z) zs && apart zs
+
+-- the ports that each driver of a table writes, and those that it reads
+abbrev pub writes_in : List DriverPorts → List ℕ
+writes_in drivers = map (λ d. d.writes) drivers
+
+abbrev pub reads_in : List DriverPorts → List ℕ
+reads_in drivers = map (λ d. d.reads) drivers
+
+-- the ports that each task of a table owns, and those that it reads
+abbrev pub owns_in : List TaskPorts → List ℕ
+owns_in tasks = map (λ t. t.owns) tasks
+
+abbrev pub sees_in : List TaskPorts → List ℕ
+sees_in tasks = map (λ t. t.sees) tasks

@@ -8,6 +8,8 @@ pub mod laws;
 pub mod lines;
 pub mod port;
 mod refusal;
+pub mod set;
 pub mod sharing;
 pub mod sheet;
+pub mod table;
 pub mod ticks;

@@ -14,9 +14,9 @@ impl ImageFault {
             ImageFault::RecordLength { place } => (3, place),
             ImageFault::Counts { place } => (4, place),
             ImageFault::Entry { place } => (5, place),
-            ImageFault::Operation { address } => (6, address as usize),
-            ImageFault::RowPair { address } => (7, address as usize),
-            ImageFault::Target { address } => (8, address as usize),
+            ImageFault::Operation { address } => (6, usize::from(address)),
+            ImageFault::RowPair { address } => (7, usize::from(address)),
+            ImageFault::Target { address } => (8, usize::from(address)),
         };
         Refusal {
             number,
@@ -34,7 +34,7 @@ impl CodeFault {
             CodeFault::Image(fault) => fault.refusal(),
             CodeFault::Typing { address } => Refusal {
                 number: 9,
-                place: address as usize,
+                place: usize::from(address),
                 layer: Layer::Check,
             },
         }
@@ -49,12 +49,12 @@ impl LoadFault {
             LoadFault::Code(fault) => fault.refusal(),
             LoadFault::Budget { task } => Refusal {
                 number: 10,
-                place: task as usize,
+                place: usize::from(task),
                 layer: Layer::Load,
             },
             LoadFault::Overload { task } => Refusal {
                 number: 11,
-                place: task as usize,
+                place: usize::from(task),
                 layer: Layer::Load,
             },
         }

@@ -6,5 +6,5 @@ ghost use Rattle.ecode.specs.Image.{is_ticks};
 pub fn is_tick_count(x: u8) -> bool
     ensures { result ≡ is_ticks x }
 {
-    1 <= x && x <= 240
+    (1..=240).contains(&x)
 }

@@ -4,7 +4,7 @@ use Rattle.std.specs.List.{AllByRecursion}
 use Rattle.std.proofs.lemmas.Int.{ints}
 use Rattle.std.proofs.lemmas.Bool.{eq-eqb, eqb-true, lt-ltb}
 use Rattle.ecode.specs.Wiring.{has}
-use Rattle.ecode.specs.Sheets.{In}
+use Rattle.ecode.specs.Sheets.{In, writes_of}
 use Rattle.host.specs.declared.stop.Stop.{Stop}
 use Rattle.host.specs.Bounds.{held}
 use Rattle.host.specs.Meaning.{reading}
@@ -83,7 +83,7 @@ pub end_stops_hold : EndStopsHold
 end_stops_hold m names d xs l h len =
     let ss = kept_of m.sheet names in
     let rules = kept_rules m.sheet names in
-    let written = get_or m.sheet.writes d 0 in
+    let written = writes_of m.sheet d in
     let below = m.drive d xs in
     let long : length below ≡ m.sheet.ports = (l.drives d h).keeps_length xs ∙ len in
     let held_all : (Q : Stop → ℤ → ℤ → Type 0) → ((s : Stop) (v : ℤ) → Proper m.sheet s → Q s v (held s.low s.high v))

@@ -7,7 +7,7 @@
 --   Lawful        the sheet keeps its rules, and every driver, task and condition its sets
 use Rattle.std.specs.Prelude.{◌≡◌, ℕ, ◌<◌, ◌≤◌, Bool, false, List, length, ℤ, pos, slice_index, slice_index_or}
 use Rattle.ecode.specs.declared.sheet.Sheet.{Sheet}
-use Rattle.ecode.specs.Sheets.{In, SheetRules}
+use Rattle.ecode.specs.Sheets.{In, SheetRules, owns_of, reads_of, sees_of, writes_of}
 
 -- the value of port p, and 0 where there is no such port
 abbrev pub reading : List ℤ → ℕ → ℤ
@@ -39,8 +39,8 @@ pub record Reads (read : ℕ) (f : List ℤ → Bool) : Type 0 where
 -- that the sheet does not have changes nothing, and as a condition is false
 pub record Lawful (m : Meaning) : Type 0 where
   pub rules : SheetRules m.sheet
-  pub drives : (d : ℕ) → d < m.sheet.drivers → Local (slice_index m.sheet.writes d) (slice_index m.sheet.reads d) (m.drive d)
-  pub works : (t : ℕ) → t < m.sheet.tasks → Local (slice_index m.sheet.owns t) (slice_index m.sheet.sees t) (m.work t)
+  pub drives : (d : ℕ) → d < m.sheet.drivers → Local (writes_of m.sheet d) (reads_of m.sheet d) (m.drive d)
+  pub works : (t : ℕ) → t < m.sheet.tasks → Local (owns_of m.sheet t) (sees_of m.sheet t) (m.work t)
   pub tests : (q : ℕ) → q < m.sheet.conditions → Reads (slice_index m.sheet.looks q) (m.test q)
   pub drives_off : (d : ℕ) → m.sheet.drivers ≤ d → (xs : List ℤ) → m.drive d xs ≡ xs
   pub works_off : (t : ℕ) → m.sheet.tasks ≤ t → (xs : List ℤ) → m.work t xs ≡ xs

@@ -7,44 +7,41 @@ use Rattle.std.proofs.Common.{lit≤}
 use Rattle.ecode.specs.declared.port.PortKind.{PortKind}
 use Rattle.ecode.specs.declared.port.PortKind.TheVariants.{Sensor, Driver, Task}
 use Rattle.ecode.specs.declared.sheet.Sheet.{Sheet}
-use Rattle.ecode.specs.Wiring.{all_below, within, is_driver, is_task, not_driver, not_task}
+use Rattle.ecode.specs.declared.sheet.DriverPorts.{DriverPorts}
+use Rattle.ecode.specs.declared.sheet.TaskPorts.{TaskPorts}
+use Rattle.ecode.specs.Sheets.{driver, task}
+use Rattle.ecode.specs.Wiring.{writes_in, reads_in, owns_in, sees_in, all_below, within, is_driver, is_task, not_driver, not_task}
 
 -- the kinds of the ports; from port 8 on they do not count
 abbrev pub kinds_table : List PortKind
 kinds_table = Sensor ∷ Sensor ∷ Driver ∷ Driver ∷ Driver ∷ Task ∷ Task ∷ Task ∷ replicate 24 Sensor
 
 -- the ports that each driver writes, and those that it reads
-abbrev pub writes_table : List ℕ
-writes_table = 0x08 ∷ 0x04 ∷ 0x10 ∷ replicate 29 0
-
-abbrev pub reads_table : List ℕ
-reads_table = 0x01 ∷ 0x40 ∷ 0x20 ∷ replicate 29 0
+abbrev pub drivers_table : List DriverPorts
+drivers_table = driver 0x08 0x01 ∷ driver 0x04 0x40 ∷ driver 0x10 0x20 ∷ replicate 29 (driver 0 0)
 
 -- the ports that each task owns, and those that it reads
-abbrev pub owns_table : List ℕ
-owns_table = 0x20 ∷ 0xc0 ∷ replicate 6 0
-
-abbrev pub sees_table : List ℕ
-sees_table = 0x04 ∷ 0x08 ∷ replicate 6 0
+abbrev pub tasks_table : List TaskPorts
+tasks_table = task 0x20 0x04 ∷ task 0xc0 0x08 ∷ replicate 6 (task 0 0)
 
 -- the ports that each condition reads
 abbrev pub looks_table : List ℕ
 looks_table = 0x02 ∷ replicate 15 0
 
 -- the tables keep the rules of a sheet: each is computed
-pub written : within 8 kinds_table is_driver writes_table ≡ true
+pub written : within 8 kinds_table is_driver (writes_in drivers_table) ≡ true
 unfolding all_below
 written = refl
 
-pub read : within 8 kinds_table not_driver reads_table ≡ true
+pub read : within 8 kinds_table not_driver (reads_in drivers_table) ≡ true
 unfolding all_below
 read = refl
 
-pub owned : within 8 kinds_table is_task owns_table ≡ true
+pub owned : within 8 kinds_table is_task (owns_in tasks_table) ≡ true
 unfolding all_below
 owned = refl
 
-pub seen : within 8 kinds_table is_driver sees_table ≡ true
+pub seen : within 8 kinds_table is_driver (sees_in tasks_table) ≡ true
 unfolding all_below
 seen = refl
 
@@ -58,11 +55,9 @@ pitch_sheet = record {
   ports = 8;
   kinds = kinds_table;
   drivers = 3;
-  writes = writes_table;
-  reads = reads_table;
+  driver_ports = drivers_table;
   tasks = 2;
-  owns = owns_table;
-  sees = sees_table;
+  task_ports = tasks_table;
   conditions = 1;
   looks = looks_table;
   has_ports = lit≤ tt;

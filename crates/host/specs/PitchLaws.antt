@@ -6,14 +6,15 @@ use Rattle.host.specs.Meaning.{reading, Local, Reads}
 use Rattle.host.specs.Pitch.{pitch_sheet}
 use Rattle.host.specs.PitchHost.{control, smoothed, pitch_drive, pitch_work, pitch_test, nonzero}
 use Rattle.host.specs.Locals.{From, set_local, also_local}
+use Rattle.ecode.specs.Sheets.{owns_of, reads_of, sees_of, writes_of}
 
-pub drives : (d : ℕ) → d < 3 → Local (slice_index pitch_sheet.writes d) (slice_index pitch_sheet.reads d) (pitch_drive d)
+pub drives : (d : ℕ) → d < 3 → Local (writes_of pitch_sheet d) (reads_of pitch_sheet d) (pitch_drive d)
 drives zero h = set_local 0x08 0x01 3 (λ xs. reading xs 0) refl (λ xs ys aw ar. ar 0 refl)
 drives (suc zero) h = set_local 0x04 0x40 2 (λ xs. reading xs 6) refl (λ xs ys aw ar. ar 6 refl)
 drives (suc (suc zero)) h = set_local 0x10 0x20 4 (λ xs. reading xs 5) refl (λ xs ys aw ar. ar 5 refl)
 drives (suc (suc (suc d))) h = absurd (omega arith)
 
-pub works : (t : ℕ) → t < 2 → Local (slice_index pitch_sheet.owns t) (slice_index pitch_sheet.sees t) (pitch_work t)
+pub works : (t : ℕ) → t < 2 → Local (owns_of pitch_sheet t) (sees_of pitch_sheet t) (pitch_work t)
 works zero h = set_local 0x20 0x04 5 (λ xs. control (reading xs 2)) refl (λ xs ys aw ar. ap control (ar 2 refl))
 works (suc zero) h =
     let angle : List ℤ → ℤ = λ xs. smoothed (reading xs 7) (reading xs 3) in

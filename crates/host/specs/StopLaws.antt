@@ -9,7 +9,7 @@ use Rattle.std.specs.Prelude.{◌≡◌, ℕ, ◌<◌, ◌≤◌, ◌⊎◌, Lis
 use Rattle.std.specs.List.{AllByRecursion}
 use Rattle.ecode.specs.declared.port.PortKind.TheVariants.{Driver}
 use Rattle.ecode.specs.declared.sheet.Sheet.{Sheet}
-use Rattle.ecode.specs.Sheets.{In, Port, kind}
+use Rattle.ecode.specs.Sheets.{In, Port, kind, writes_of}
 use Rattle.host.specs.declared.stop.Stop.{Stop}
 use Rattle.host.specs.Meaning.{Meaning, Lawful, reading}
 use Rattle.host.specs.Stops.{kept_of, stopped}
@@ -60,4 +60,4 @@ pub record Stopping (written : ℕ) (ss : List Stop) (below above : List ℤ) : 
 -- of every lawful host, names, driver of its sheet and ports
 abbrev pub EndStopsHold : Type 0
 EndStopsHold = (m : Meaning) (names : List Stop) (d : ℕ) (xs : List ℤ) → Lawful m → d < m.sheet.drivers → length xs ≡ m.sheet.ports
-    → Stopping (slice_index m.sheet.writes d) (kept_of m.sheet names) (m.drive d xs) ((stopped (kept_of m.sheet names) m).drive d xs)
+    → Stopping (writes_of m.sheet d) (kept_of m.sheet names) (m.drive d xs) ((stopped (kept_of m.sheet names) m).drive d xs)

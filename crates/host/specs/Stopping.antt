@@ -10,6 +10,7 @@ use Rattle.host.specs.Bounds.{held}
 use Rattle.host.specs.Meaning.{Meaning, reading, Local, Lawful}
 use Rattle.host.specs.Stops.{stop_one, stop_all, stopped}
 use Rattle.host.specs.Locals.{keep_local, set_local, then_local}
+use Rattle.ecode.specs.Sheets.{reads_of, writes_of}
 
 module _ (written read : ℕ) where
   stop_local : (s : Stop) (b : Bool) → has written s.port ≡ b
@@ -41,8 +42,8 @@ pub stopped_lawful : (ss : List Stop) (m : Meaning) → Lawful m → Lawful (sto
 stopped_lawful ss m l = record {
   rules = l.rules;
   drives = λ d h.
-      let written = get_or m.sheet.writes d 0 in
-      let read = get_or m.sheet.reads d 0 in
+      let written = writes_of m.sheet d in
+      let read = reads_of m.sheet d in
       subst (λ b. Local written read (λ xs. cond b (stop_all written ss (m.drive d xs)) xs)) (sym (lt-ltb d m.sheet.drivers h))
       (then_local written read (m.drive d) (stop_all written ss) (l.drives d h) (stops_local written read ss));
   works = l.works;

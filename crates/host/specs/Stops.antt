@@ -8,7 +8,7 @@
 use Rattle.std.specs.Prelude.{ℕ, Bool, false, cond, not, ◌&&◌, ◌||◌, List, [], ◌∷◌, ◌++◌, length, take, ℤ, ◌==◌, int_le, nat_lt, slice_index, slice_set}
 use Rattle.ecode.specs.declared.sheet.Sheet.{Sheet}
 use Rattle.ecode.specs.Wiring.{has, is_driver}
-use Rattle.ecode.specs.Sheets.{kind}
+use Rattle.ecode.specs.Sheets.{kind, writes_of}
 use Rattle.host.specs.declared.stop.Stop.{Stop}
 use Rattle.host.specs.declared.stop.StopTable.{StopTable}
 use Rattle.host.specs.Bounds.{held}
@@ -56,7 +56,7 @@ stop_all written (s ∷ ss) xs = stop_all written ss (stop_one written s xs)
 
 -- a driver of the sheet does what the lower one does, and then the ports that it writes are held
 abbrev pub stopped_drive : List Stop → Meaning → ℕ → List ℤ → List ℤ
-stopped_drive ss m d xs = cond (nat_lt d m.sheet.drivers) (stop_all (slice_index m.sheet.writes d) ss (m.drive d xs)) xs
+stopped_drive ss m d xs = cond (nat_lt d m.sheet.drivers) (stop_all (writes_of m.sheet d) ss (m.drive d xs)) xs
 
 -- all else is as below
 abbrev pub stopped : List Stop → Meaning → Meaning

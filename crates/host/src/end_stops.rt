@@ -92,7 +92,7 @@ impl<H: Host> Host for EndStops<H> {
             self.lower.drive(driver);
             stop_ports(
                 &mut self.lower,
-                sheet.writes[driver as usize],
+                sheet.driver_ports[driver as usize].writes,
                 self.table.in_use(),
             );
         }

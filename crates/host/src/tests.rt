@@ -4,7 +4,7 @@ use crate::host::Host;
 use crate::pitch_host::PitchHost;
 use crate::stop::{Stop, StopTable};
 use ecode::port::PortKind;
-use ecode::sheet::Sheet;
+use ecode::sheet::{DriverPorts, Sheet, TaskPorts};
 use std::test::Fail;
 
 const LEAST: i32 = i32::MIN;
@@ -125,11 +125,9 @@ fn wide_sheet() -> Sheet {
         ports: 6,
         kinds: [PortKind::Driver; 32],
         drivers: 0,
-        writes: [0; 32],
-        reads: [0; 32],
+        driver_ports: [DriverPorts::NONE; 32],
         tasks: 1,
-        owns: [0; 8],
-        sees: [0; 8],
+        task_ports: [TaskPorts::NONE; 8],
         conditions: 0,
         looks: [0; 16],
     }

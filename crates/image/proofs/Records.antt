@@ -1,9 +1,12 @@
--- The rules of one record. Assumes nothing.
-use Rattle.std.proofs.Common.{◌≡◌, ℕ, ◌+◌, ◌-◌, ◌*◌, ◌≤◌, Bool, true, false, cond, List, [], ◌∷◌, length, take, drop, is_some, Some, None, unwrap_or, sym, refl, ap, ◌∙◌, arith, length-drop, take_all}
+-- The rules of one record, and the parts that it is cut into. Assumes nothing.
+use Rattle.std.proofs.Common.{◌≡◌, ℕ, zero, suc, ◌+◌, ◌-◌, ◌*◌, ◌/◌, ◌<◌, ◌≤◌, Bool, true, false, cond, List, [], ◌∷◌, length, get_or, take, drop, is_some, Some, None, unwrap_or, sym, refl, ap, ◌∙◌, ap₂, arith, length-drop, take_all, get_or-take}
+use native.Mathlib.Nat.{mul-suc}
+use Rattle.std.specs.Simd.{first_chunks}
+use Rattle.std.proofs.lemmas.List.{get_or-drop, drop-drop}
 use Rattle.std.proofs.lemmas.Bool.{cond-true, cond-false}
 use Rattle.ecode.specs.Rules.{Rule, broken}
 use Rattle.ecode.specs.Instructions.{aimed}
-use Rattle.ecode.specs.Image.{instruction_in, row_fine, row_in, line, record_at}
+use Rattle.ecode.specs.Image.{instruction_in, cell_of, cell_in, row_fine, row_in, line}
 use Rattle.ecode.specs.Verdict.{record_rules}
 use Rattle.ecode.specs.declared.sheet.Sheet.{Sheet}
 use Rattle.ecode.specs.declared.code.Cell.{Cell}
@@ -67,6 +70,21 @@ module _ (s : Sheet) (n a : ℕ) (bs : List ℕ) (i : Instruction) (read : Some 
       ap (λ o. made (unwrap_or o Return) row) read ∙ ap (made (line s bs).instruction) got.1,
     )
 
--- the part of an image that the code lends
-pub part_is : (im : List ℕ) (a : ℕ) → take (20 * a + 20 - 20 * a) (drop (20 * a) im) ≡ record_at im a
-part_is im a = let twenty : 20 * a + 20 - 20 * a ≡ 20 = omega arith in ap (λ n. take n (drop (20 * a) im)) twenty
+-- a whole chunk of a list
+pub chunk_at : {X : Type 0} (n m : ℕ) (xs : List X) (k : ℕ) (d : List X) → k < m → get_or (first_chunks n m xs) k d ≡ take n (drop (n * k) xs)
+chunk_at n zero xs k d h = absurd (omega arith)
+chunk_at n (suc m) xs zero d h = let none : n * 0 ≡ 0 = omega arith in ap (λ i. take n (drop i xs)) (sym none)
+chunk_at n (suc m) xs (suc k) d h =
+    let more : n + n * k ≡ n * suc k = omega (arith, mul-suc n k) in
+    chunk_at n m (drop n xs) k d (omega arith) ∙ ap (take n) (drop-drop (n * k) n xs ∙ ap (λ i. drop i xs) more)
+
+-- the cell that a pair of 16 bytes says
+pub cell_read : (tasks t : ℕ) (ps : List ℕ) (qs : List (List ℕ)) → qs ≡ first_chunks 2 (length ps / 2) ps → length ps ≡ 16 → t < 8
+    → cell_of tasks t (get_or (get_or qs t []) 0 0) (get_or (get_or qs t []) 1 0) ≡ cell_in tasks ps t
+cell_read tasks t ps qs e l h =
+    let pair : get_or qs t [] ≡ take 2 (drop (2 * t) ps) = ap (λ r. get_or r t []) e ∙ chunk_at 2 (length ps / 2) ps t [] (omega arith) in
+    let left : get_or (get_or qs t []) 0 0 ≡ get_or ps (2 * t) 0 =
+    ap (λ p. get_or p 0 0) pair ∙ get_or-take 2 (drop (2 * t) ps) 0 0 (omega arith) ∙ get_or-drop (2 * t) ps 0 0 ∙ ap (λ i. get_or ps i 0) (omega arith) in
+    let right : get_or (get_or qs t []) 1 0 ≡ get_or ps (2 * t + 1) 0 =
+    ap (λ p. get_or p 1 0) pair ∙ get_or-take 2 (drop (2 * t) ps) 1 0 (omega arith) ∙ get_or-drop (2 * t) ps 1 0 in
+    ap₂ (cell_of tasks t) left right

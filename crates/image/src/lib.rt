@@ -11,6 +11,7 @@ ghost use Rattle.ecode.specs.Parts.{FromImage};
 
 use crate::listing::read_listing;
 use crate::trailer::read_trailer;
+pub use crate::trailer::trailer_bytes;
 use ecode::code::Listing;
 use ecode::fault::ImageFault;
 use ecode::sheet::Sheet;
@@ -20,6 +21,5 @@ pub fn read_image(sheet: &Sheet, image: &[u8]) -> Result<Listing, ImageFault>
     ensures { Judged (image_rules sheet.now image.now) (FromImage sheet.now image.now) result }
 {
     let trailer = read_trailer(sheet, image)?;
-    let listing = read_listing(sheet, image, trailer)?;
-    Ok(listing)
+    read_listing(sheet, image, trailer)
 }

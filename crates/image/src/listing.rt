@@ -13,10 +13,11 @@ pub fn read_listing(sheet: &Sheet, image: &[u8], trailer: Trailer) -> Result<Lis
     requires { FromTrailer image.now trailer }
     ensures { Judged (layout_rules sheet.now image.now trailer.count) (FromRecords sheet.now image.now trailer) result }
 {
+    let (records, _) = image.as_chunks::<20>();
     let mut lines = [BLANK; 200];
-    for a in 0..trailer.count {
-        let at = 20 * a as usize;
-        lines[a as usize] = read_line(sheet, trailer.count, a, &image[at..at + 20])?;
+    // by its address: a proof sees nothing of what a zip with iter_mut writes
+    for (a, record) in records.iter().enumerate() {
+        lines[a] = read_line(sheet, trailer.count, a as u16, record)?;
     }
     Ok(Listing {
         lines,

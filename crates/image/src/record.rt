@@ -10,40 +10,25 @@ use ecode::fault::ImageFault;
 use ecode::sheet::Sheet;
 use ecode::ticks::is_tick_count;
 
-fn when(fine: bool, instruction: Instruction) -> Option<Instruction>
-    ensures { result ≡ (if fine then Some instruction else None) }
-{
-    if fine { Some(instruction) } else { None }
-}
-
 // The instruction that an opcode and its operands make.
 fn decode(sheet: &Sheet, opcode: u8, x: u8, y: u8, z: u8) -> Option<Instruction>
     ensures { result ≡ decoded sheet.now opcode x y z }
 {
-    let to = y as u16;
+    let to = u16::from(y);
     match opcode {
-        1 => when(
-            x < sheet.drivers && y == 0 && z == 0,
-            Instruction::Call { driver: x },
-        ),
-        2 => when(
-            x < sheet.tasks && is_tick_count(y) && z == 0,
-            Instruction::Release { task: x, window: y },
-        ),
-        3 => when(
-            is_tick_count(x) && (z as u16) < 1 << sheet.tasks,
-            Instruction::Future {
-                wait: x,
-                to,
-                kept: z,
-            },
-        ),
-        4 => when(
-            x < sheet.conditions && z == 0,
-            Instruction::If { condition: x, to },
-        ),
-        5 => when(x == 0 && z == 0, Instruction::Jump { to }),
-        6 => when(x == 0 && y == 0 && z == 0, Instruction::Return),
+        1 => (x < sheet.drivers && y == 0 && z == 0).then_some(Instruction::Call { driver: x }),
+        2 => (x < sheet.tasks && is_tick_count(y) && z == 0).then_some(Instruction::Release {
+            task: x,
+            window: y,
+        }),
+        3 => (is_tick_count(x) && u16::from(z) < 1 << sheet.tasks).then_some(Instruction::Future {
+            wait: x,
+            to,
+            kept: z,
+        }),
+        4 => (x < sheet.conditions && z == 0).then_some(Instruction::If { condition: x, to }),
+        5 => (x == 0 && z == 0).then_some(Instruction::Jump { to }),
+        6 => (x == 0 && y == 0 && z == 0).then_some(Instruction::Return),
         _ => None,
     }
 }
@@ -52,34 +37,30 @@ fn decode(sheet: &Sheet, opcode: u8, x: u8, y: u8, z: u8) -> Option<Instruction>
 fn read_cell(tasks: u8, t: u8, consumed: u8, remaining: u8) -> Option<Cell>
     ensures { result ≡ cell_of tasks t consumed remaining }
 {
-    if consumed == 255 && remaining == 0 {
-        return Some(Cell::NotHeld);
-    }
-    if t >= tasks {
-        return None;
-    }
-    if consumed == 254 && remaining == 0 {
-        return Some(Cell::Idle);
-    }
-    let total = consumed as u16 + remaining as u16;
-    if 1 <= total && total <= 240 {
-        Some(Cell::Released {
-            consumed,
-            remaining,
-        })
-    } else {
-        None
+    match (consumed, remaining) {
+        (255, 0) => Some(Cell::NotHeld),
+        _ if t >= tasks => None,
+        (254, 0) => Some(Cell::Idle),
+        _ => consumed
+            .checked_add(remaining)
+            .is_some_and(is_tick_count)
+            .then_some(Cell::Released {
+                consumed,
+                remaining,
+            }),
     }
 }
 
-// A row of 16 bytes.
-fn read_row(tasks: u8, pairs: &[u8]) -> Option<[Cell; 8]>
-    requires { length pairs.now ≡ 16 }
-    ensures { result ≡ (if row_fine tasks pairs.now then Some (row_in tasks pairs.now) else None) }
+// A row of eight pairs.
+fn read_row(tasks: u8, bytes: &[u8]) -> Option<[Cell; 8]>
+    requires { length bytes.now ≡ 16 }
+    ensures { result ≡ (if row_fine tasks bytes.now then Some (row_in tasks bytes.now) else None) }
 {
+    let (pairs, _) = bytes.as_chunks::<2>();
     let mut row = [Cell::NotHeld; 8];
-    for t in 0..8 {
-        row[t] = read_cell(tasks, t as u8, pairs[2 * t], pairs[2 * t + 1])?;
+    // by its number: a proof sees nothing of what a zip with iter_mut writes
+    for (t, [consumed, remaining]) in pairs.iter().enumerate() {
+        row[t] = read_cell(tasks, t as u8, *consumed, *remaining)?;
     }
     Some(row)
 }
@@ -99,17 +80,17 @@ fn is_aimed(n: u16, a: u16, instruction: Instruction) -> bool
 }
 
 // The record at the address a of n.
-pub fn read_line(sheet: &Sheet, n: u16, a: u16, part: &[u8]) -> Result<Line, ImageFault>
-    requires { (length part.now ≡ 20) × (a < 200) }
-    ensures { Judged (record_rules sheet.now n a part.now) (λ l. l ≡ line sheet.now part.now) result }
+pub fn read_line(sheet: &Sheet, n: u16, a: u16, bytes: &[u8; 20]) -> Result<Line, ImageFault>
+    requires { a < 200 }
+    ensures { Judged (record_rules sheet.now n a bytes.now) (λ l. l ≡ line sheet.now bytes.now) result }
 {
-    let [opcode, x, y, z, pairs @ ..] = part else {
-        return Err(ImageFault::Operation { address: a });
+    let [opcode, x, y, z, row @ ..] = &bytes[..] else {
+        unreachable!()
     };
     let Some(instruction) = decode(sheet, *opcode, *x, *y, *z) else {
         return Err(ImageFault::Operation { address: a });
     };
-    let Some(row) = read_row(sheet.tasks, pairs) else {
+    let Some(row) = read_row(sheet.tasks, row) else {
         return Err(ImageFault::RowPair { address: a });
     };
     if !is_aimed(n, a, instruction) {

@@ -1,8 +1,8 @@
 -- The first program of a bench, a lone return, is accepted for every sheet.
-use Rattle.std.proofs.Common.{◌≡◌, ℕ, zero, suc, ◌+◌, ◌*◌, ◌<◌, Bool, true, false, cond, eqb, ltb, List, [], ◌∷◌, length, get_or, set, replicate, sym, refl, ap, ◌∙◌, subst, inl, inr, arith, get_or-set_other, get_or-set_same}
+use Rattle.std.proofs.Common.{◌≡◌, ℕ, zero, suc, ◌+◌, ◌-◌, ◌*◌, ◌<◌, ◌≤◌, Bool, true, false, cond, eqb, ltb, List, [], ◌∷◌, ◌++◌, length, get_or, drop, replicate, sym, refl, ap, ◌∙◌, subst, inl, inr, arith, length-append, length-drop}
 use lib.ListN.{length-replicate, get_or-replicate}
 use Rattle.std.proofs.lemmas.Bool.{cases_eq, cases_lt, lt-ltb, le-ltb, ltb-true}
-use Rattle.std.proofs.lemmas.List.{get_or_past}
+use Rattle.std.proofs.lemmas.List.{get_or_past, get_or_append_left, get_or-append-add, get_or-drop}
 use Rattle.ecode.specs.declared.sheet.Sheet.{Sheet}
 use Rattle.ecode.specs.declared.code.Cell.{Cell}
 use Rattle.ecode.specs.declared.code.Cell.TheVariants.{NotHeld, Idle}
@@ -13,18 +13,24 @@ use Rattle.ecode.specs.Image.{listed}
 use Rattle.ecode.specs.Typing.{cell, blank}
 use Rattle.ecode.specs.Load.{sum_below, product_below, part, width, without}
 use Rattle.ecode.specs.Accepted.{Ticks, Held, IsReleased, CellRanged, Ranged, KeepsFewer, Aimed, Typed, LeastWindow, Accepted, lone_return}
-use Rattle.ecode.proofs.Lists.{length_listed, getD_listed}
+use Rattle.ecode.proofs.Lists.{filled, length_listed, getD_listed}
 use Rattle.loader.proofs.Shares.{sum_cong}
 
--- one more idle cell
-pub idle_more : (row : List Cell) (t : ℕ) → t < length row → ((k : ℕ) → get_or row k NotHeld ≡ cond (ltb k t) Idle NotHeld) → (k : ℕ) → get_or (set row t Idle) k NotHeld ≡ cond (ltb k (t + 1)) Idle NotHeld
-idle_more row t h all k = elim (cases_eq k t) [
-  | inl e ↦ ap (λ j. get_or (set row t Idle) j NotHeld) e ∙ get_or-set_same row t Idle NotHeld h ∙ sym (ap (λ b. cond b Idle NotHeld) (lt-ltb k (t + 1) (omega arith)))
-  | inr n ↦ get_or-set_other row t k Idle NotHeld n ∙ all k ∙ elim (cases_lt k t) [
-    | inl l ↦ ap (λ b. cond b Idle NotHeld) (lt-ltb k t l ∙ sym (lt-ltb k (t + 1) (omega arith)))
-    | inr l ↦ ap (λ b. cond b Idle NotHeld) (le-ltb k t l ∙ sym (le-ltb k (t + 1) (omega arith)))
-  ]
-]
+-- idle cells as far as there are tasks
+pub idle_front : (n : ℕ) → n ≤ 8 → replicate n Idle ++ drop n (replicate 8 NotHeld) ≡ listed 8 (λ t. cond (ltb t n) Idle NotHeld)
+idle_front n h =
+    let rest = drop n (replicate 8 NotHeld) in
+    let row = replicate n Idle ++ rest in
+    let long : length row ≡ 8 = simp (length-append, length-replicate, length-drop) (omega arith) in
+    filled 8 (λ t. cond (ltb t n) Idle NotHeld) row NotHeld long (λ k few. elim (cases_lt k n) [
+      | inl l ↦
+          let here : k < length (replicate n Idle) = simp length-replicate l in
+          get_or_append_left (replicate n Idle) rest NotHeld k here ∙ get_or-replicate n k Idle NotHeld l ∙ sym (ap (λ b. cond b Idle NotHeld) (lt-ltb k n l))
+      | inr l ↦
+          let at : k ≡ length (replicate n Idle) + (k - n) = simp length-replicate (omega arith) in
+          ap (λ i. get_or row i NotHeld) at ∙ get_or-append-add (replicate n Idle) rest (k - n) NotHeld ∙ get_or-drop n (replicate 8 NotHeld) (k - n) NotHeld
+          ∙ get_or-replicate 8 (n + (k - n)) NotHeld NotHeld (omega arith) ∙ sym (ap (λ b. cond b Idle NotHeld) (le-ltb k n l))
+    ])
 
 zeros : (n : ℕ) → sum_below n (λ _. 0) ≡ 0
 unfolding sum_below

@@ -7,6 +7,7 @@ ghost use Rattle.ecode.specs.Accepted.{Accepted, lone_return};
 
 use ecode::code::{BLANK, Cell, Instruction, Line, Listing, Program};
 use ecode::sheet::Sheet;
+use ecode::table::padded;
 
 // Every task idle.
 fn idle_row(tasks: u8) -> [Cell; 8]
@@ -14,9 +15,7 @@ fn idle_row(tasks: u8) -> [Cell; 8]
     ensures { result ≡ listed 8 (λ t. (if nat_lt t tasks then Idle else NotHeld)) }
 {
     let mut row = [Cell::NotHeld; 8];
-    for t in 0..tasks as usize {
-        row[t] = Cell::Idle;
-    }
+    row[..usize::from(tasks)].fill(Cell::Idle);
     row
 }
 
@@ -25,15 +24,13 @@ pub fn first_program(sheet: &Sheet) -> Program
     ensures contents { contents sheet.now.tasks result ≡ lone_return sheet.now }
     ensures accepted { Accepted sheet.now (contents sheet.now.tasks result) }
 {
-    let row = idle_row(sheet.tasks);
-    let mut lines = [BLANK; 200];
-    lines[0] = Line {
+    let line = Line {
         instruction: Instruction::Return,
-        row,
+        row: idle_row(sheet.tasks),
     };
     Program {
         listing: Listing {
-            lines,
+            lines: padded(&[line], BLANK),
             count: 1,
             entry: 0,
         },

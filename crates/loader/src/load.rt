@@ -23,8 +23,9 @@ fn lesser_window(t: u8, instruction: Instruction, best: u8) -> u8
 pub fn least_window(listing: &Listing, t: u8) -> u8
     ensures { result ≡ window (lines_of listing.now) t }
 {
-    let mut best = 0u8;
-    for a in 0..listing.count as usize {
+    let mut best = 0;
+    // an index over the code: the form that the project asks for
+    for a in 0..usize::from(listing.count) {
         best = lesser_window(t, listing.lines[a].instruction, best);
     }
     best
@@ -39,8 +40,8 @@ fn with_task(sum: LoadSum, budget: u8, window: u8) -> LoadSum
     if window == 0 {
         return sum;
     }
-    let w = window as u128;
-    let b = budget as u128;
+    let w = u128::from(window);
+    let b = u128::from(budget);
     LoadSum {
         parts: sum.parts * w + b * sum.whole,
         whole: sum.whole * w,
@@ -52,14 +53,12 @@ pub fn load_sum(sheet: &Sheet, program: &Program) -> Result<LoadSum, LoadFault>
     ensures { Judged (sum_rules sheet.now (lines_of program.now.listing) (take sheet.now.tasks program.now.budgets)) (LoadIs sheet.now.tasks (lines_of program.now.listing) (take sheet.now.tasks program.now.budgets)) result }
 {
     let mut sum = LoadSum { parts: 0, whole: 1 };
-    for t in 0..sheet.tasks {
-        sum = with_task(
-            sum,
-            program.budgets[t as usize],
-            least_window(&program.listing, t),
-        );
+    let budgets = &program.budgets[..usize::from(sheet.tasks)];
+    for (t, budget) in budgets.iter().enumerate() {
+        let task = t as u8;
+        sum = with_task(sum, *budget, least_window(&program.listing, task));
         if sum.parts > sum.whole {
-            return Err(LoadFault::Overload { task: t });
+            return Err(LoadFault::Overload { task });
         }
     }
     Ok(sum)

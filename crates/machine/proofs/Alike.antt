@@ -7,7 +7,7 @@ use Rattle.ecode.specs.declared.port.PortKind.TheVariants.{Sensor, Driver, Task}
 use Rattle.ecode.specs.declared.code.Instruction.{Instruction}
 use Rattle.ecode.specs.declared.code.Instruction.TheVariants.{Call, Release, Future, If, Jump, Return}
 use Rattle.ecode.specs.Wiring.{has}
-use Rattle.ecode.specs.Sheets.{In, kind}
+use Rattle.ecode.specs.Sheets.{In, kind, owns_of, reads_of, sees_of, writes_of}
 use Rattle.ecode.specs.Accepted.{Ranged}
 use Rattle.ecode.proofs.Meets.{tells_shares}
 use Rattle.host.specs.Meaning.{Meaning, Lawful, Agree, reading}
@@ -25,7 +25,7 @@ will m t None v p = reading v p
 will m t (Some w) v p = reading (m.work t w) p
 
 abbrev own : Meaning → ℕ → ℕ
-own m t = get_or m.sheet.owns t 0
+own m t = owns_of m.sheet t
 
 -- no task owns the port
 abbrev pub Unowned : Meaning → ℕ → Type 0
@@ -132,10 +132,10 @@ module _ (m : Meaning) (ok : Lawful m) where
   pub drive_long : (d : ℕ) (v : Ports) → length (m.drive d v) ≡ length v
   drive_long d v = ⊎_elim (λ (k : d < m.sheet.drivers). (ok.drives d k).keeps_length v) (λ (k : m.sheet.drivers ≤ d). ap length (ok.drives_off d k v)) (cases_lt d m.sheet.drivers)
 
-  pub drive_only : (d : ℕ) (v : Ports) (p : ℕ) → (In p (get_or m.sheet.writes d 0) → ⊥) → reading (m.drive d v) p ≡ reading v p
+  pub drive_only : (d : ℕ) (v : Ports) (p : ℕ) → (In p (writes_of m.sheet d) → ⊥) → reading (m.drive d v) p ≡ reading v p
   drive_only d v p n = ⊎_elim (λ (k : d < m.sheet.drivers). (ok.drives d k).only v p n) (λ (k : m.sheet.drivers ≤ d). ap (λ xs. reading xs p) (ok.drives_off d k v)) (cases_lt d m.sheet.drivers)
 
-  drive_same : (d : ℕ) (v w : Ports) → length v ≡ length w → Agree (get_or m.sheet.writes d 0) v w → Agree (get_or m.sheet.reads d 0) v w → Agree (get_or m.sheet.writes d 0) (m.drive d v) (m.drive d w)
+  drive_same : (d : ℕ) (v w : Ports) → length v ≡ length w → Agree (writes_of m.sheet d) v w → Agree (reads_of m.sheet d) v w → Agree (writes_of m.sheet d) (m.drive d v) (m.drive d w)
   drive_same d v w l a b p i = ⊎_elim
       (λ (k : d < m.sheet.drivers). (ok.drives d k).depends v w l a b p i)
       (λ (k : m.sheet.drivers ≤ d). ap (λ xs. reading xs p) (ok.drives_off d k v) ∙ a p i ∙ sym (ap (λ xs. reading xs p) (ok.drives_off d k w)))
@@ -214,11 +214,11 @@ module _ (m : Meaning) (ok : Lawful m) where
     long' = drive_long d v' ∙ s.long';
     off = s.off;
     off' = s.off';
-    plain = λ p e. go p e (cases_eq (get_or m.sheet.writes d 0 / 2 ^ p % 2) 1);
+    plain = λ p e. go p e (cases_eq (writes_of m.sheet d / 2 ^ p % 2) 1);
     owned = λ t p k e. drive_will t p (taken_by (f t)) v e ∙ s.owned t p k e ∙ sym (drive_will t p (taken_by (f' t)) v' e);
   }
     where
-      reads : Agree (get_or m.sheet.reads d 0) v v'
+      reads : Agree (reads_of m.sheet d) v v'
       reads p e = ⊎_elim
           (λ (w : (t : ℕ) × (t < m.sheet.tasks) × In p (own m t)).
           (let q = (tells_shares m.sheet d w.0).1 (inl (p, e, w.2)) in
@@ -226,10 +226,10 @@ module _ (m : Meaning) (ok : Lawful m) where
           (λ (w : Unowned m p). s.plain p w)
           (owner p)
 
-      writes : Agree (get_or m.sheet.writes d 0) v v'
+      writes : Agree (writes_of m.sheet d) v v'
       writes p e = s.plain p (driver_unowned p (ok.rules.written d p e).1)
 
-      go : (p : ℕ) → Unowned m p → In p (get_or m.sheet.writes d 0) ⊎ (In p (get_or m.sheet.writes d 0) → ⊥) → reading (m.drive d v) p ≡ reading (m.drive d v') p
+      go : (p : ℕ) → Unowned m p → In p (writes_of m.sheet d) ⊎ (In p (writes_of m.sheet d) → ⊥) → reading (m.drive d v) p ≡ reading (m.drive d v') p
       go p e (inl u) = drive_same d v v' (s.long ∙ sym s.long') writes reads p u
       go p e (inr u) = drive_only d v p u ∙ s.plain p e ∙ sym (drive_only d v' p u)
 
@@ -258,14 +258,14 @@ module _ (m : Meaning) (ok : Lawful m) where
       owns : Agree (own m x) v v'
       owns p e = settled v v' f f' x p s lt (free f (is_pending f x) refl a) (free f' (is_pending f' x) refl b) e
 
-      sees : Agree (get_or m.sheet.sees x 0) v v'
+      sees : Agree (sees_of m.sheet x) v v'
       sees p e = s.plain p (driver_unowned p (ok.rules.seen x p e).1)
 
       go : (t p : ℕ) → t < m.sheet.tasks → In p (own m t) → (y : Bool) → eqb t x ≡ y →
           will m t (taken_by (pending_after (Release x w) v f t)) v p ≡ will m t (taken_by (pending_after (Release x w) v' f' t)) v' p
       go t p k e true u =
           let q : t ≡ x = eqb-true t x u in
-          rw u ((ok.works t k).depends v v' (s.long ∙ sym s.long') (subst (λ (i : ℕ). Agree (own m i) v v') (sym q) owns) (subst (λ (i : ℕ). Agree (get_or m.sheet.sees i 0) v v') (sym q) sees) p e)
+          rw u ((ok.works t k).depends v v' (s.long ∙ sym s.long') (subst (λ (i : ℕ). Agree (own m i) v v') (sym q) owns) (subst (λ (i : ℕ). Agree (sees_of m.sheet i) v v') (sym q) sees) p e)
       go t p k e false u = rw u (s.owned t p k e)
 
   pub alike_instruction : (i : Instruction) (v v' : Ports) (f f' : Table) → Ranged m.sheet i → touched m.sheet f i ≡ None → touched m.sheet f' i ≡ None → Alike m v v' f f' →

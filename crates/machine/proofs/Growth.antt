@@ -5,7 +5,7 @@ use Rattle.std.proofs.ByRecursion.{All-push, All-weaker, All-map}
 use Rattle.std.proofs.lemmas.Bool.{eqb-true, eq-eqb, leb-false}
 use Rattle.ecode.specs.declared.code.Instruction.{Instruction}
 use Rattle.ecode.specs.declared.code.Instruction.TheVariants.{Call, Release, Future, If, Jump, Return}
-use Rattle.ecode.specs.Sheets.{shares}
+use Rattle.ecode.specs.Sheets.{shares, owns_of}
 use Rattle.ecode.specs.Verdict.{Contents}
 use Rattle.ecode.specs.Accepted.{Ticks, Aimed, Ranged}
 use Rattle.host.specs.Meaning.{Meaning, Lawful}
@@ -369,7 +369,7 @@ module _ (m : Meaning) (p : Contents) (ok : Lawful m) (ty : Formed m.sheet p) (t
       go : (o : Option Job) → Small m p (finish m t o s)
       go None = i
       go (Some k) = record {
-        ports = own_long (get_or m.sheet.owns t 0) 0 s.ports (m.work t k.taken) ∙ i.ports;
+        ports = own_long (owns_of m.sheet t) 0 s.ports (m.work t k.taken) ∙ i.ports;
         queue = i.queue;
         jobs = λ u. gone (JobFits m p) u (i.jobs u);
         under = λ z u. gone (λ t k. k.used < budget p t) u (i.under z u);

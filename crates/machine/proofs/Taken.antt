@@ -8,7 +8,7 @@ use Rattle.ecode.specs.declared.port.PortKind.TheVariants.{Sensor, Driver, Task}
 use Rattle.ecode.specs.declared.code.Instruction.{Instruction}
 use Rattle.ecode.specs.declared.code.Instruction.TheVariants.{Call, Release, Future, If, Jump, Return}
 use Rattle.ecode.specs.Wiring.{has}
-use Rattle.ecode.specs.Sheets.{In, Port, kind}
+use Rattle.ecode.specs.Sheets.{In, Port, kind, owns_of, sees_of}
 use Rattle.ecode.specs.Typing.{blank}
 use Rattle.ecode.specs.Verdict.{Contents}
 use Rattle.ecode.specs.Accepted.{Ranged}
@@ -25,8 +25,8 @@ use Rattle.machine.proofs.Alike.{put_long, put_other, own_long, own_off, own_on,
 -- the job k of task t has its ports taken as they are in v
 pub record AsTaken (m : Meaning) (v : Ports) (t : ℕ) (k : Job) : Type 0 where
   pub long : length k.taken ≡ length v
-  pub own : Agree (get_or m.sheet.owns t 0) v k.taken
-  pub seen : Agree (get_or m.sheet.sees t 0) v k.taken
+  pub own : Agree (owns_of m.sheet t) v k.taken
+  pub seen : Agree (sees_of m.sheet t) v k.taken
 
 -- what is pending is a task of the sheet, and finds its ports as taken
 abbrev pub Finds : Meaning → Ports → ℕ → Option Job → Type 0
@@ -40,7 +40,7 @@ pub record Kept (m : Meaning) (v : Ports) (f : Table) : Type 0 where
 
 -- ports that change only elsewhere
 moved : (m : Meaning) (v w : Ports) (t : ℕ) (k k' : Job) → k'.taken ≡ k.taken → length w ≡ length v →
-    Agree (get_or m.sheet.owns t 0) w v → Agree (get_or m.sheet.sees t 0) w v → AsTaken m v t k → AsTaken m w t k'
+    Agree (owns_of m.sheet t) w v → Agree (sees_of m.sheet t) w v → AsTaken m v t k → AsTaken m w t k'
 moved m v w t k k' e l a b x = record {
   long = ap length e ∙ x.long ∙ sym l;
   own = λ p i. a p i ∙ x.own p i ∙ ap (λ (u : Ports). reading u p) (sym e);
@@ -152,7 +152,7 @@ module _ (m : Meaning) (ok : Lawful m) where
     done_keeps t s x = go (s.pending t)
       where
         own : ℕ
-        own = get_or m.sheet.owns t 0
+        own = owns_of m.sheet t
 
         kept : (w : Ports) (q : ℕ) → (In q own → ⊥) → reading (put_own own 0 s.ports w) q ≡ reading s.ports q
         kept w q n = own_off own 0 s.ports w q (ap (has own) (zero-add q) ∙ not_in q own n)
@@ -213,13 +213,13 @@ as_taken m p v calls b t k l e = (subst (Finds m (after m p calls (fresh p v)).p
 
 -- so a task that works on the ports as they are does what it would have done to those taken
 pub work_as_taken : (m : Meaning) → Lawful m → (t : ℕ) (v : Ports) (k : Job) → t < m.sheet.tasks → AsTaken m v t k →
-    m.work t v ≡ put_own (get_or m.sheet.owns t 0) 0 v (m.work t k.taken)
+    m.work t v ≡ put_own (owns_of m.sheet t) 0 v (m.work t k.taken)
 work_as_taken m ok t v k l x =
     ext_get_or (pos 0) (m.work t v) (put_own own 0 v done_to_taken) ((ok.works t l).keeps_length v ∙ sym (own_long own 0 v done_to_taken))
     (λ p h. at p (omega (arith, (ok.works t l).keeps_length v)) (has own p) refl)
   where
     own : ℕ
-    own = get_or m.sheet.owns t 0
+    own = owns_of m.sheet t
 
     done_to_taken : Ports
     done_to_taken = m.work t k.taken

@@ -19,7 +19,7 @@ use Rattle.ecode.specs.declared.sheet.Sheet.{Sheet}
 use Rattle.ecode.specs.declared.code.Instruction.{Instruction}
 use Rattle.ecode.specs.declared.code.Instruction.TheVariants.{Call, Release, Future, If, Jump, Return}
 use Rattle.ecode.specs.Wiring.{has}
-use Rattle.ecode.specs.Sheets.{shares}
+use Rattle.ecode.specs.Sheets.{shares, owns_of}
 use Rattle.ecode.specs.Verdict.{Contents}
 use Rattle.host.specs.Meaning.{Meaning, reading}
 use Rattle.machine.specs.declared.binding.Binding.{Binding}
@@ -259,7 +259,7 @@ put_own own i (x ∷ v) w = cond (has own i) (reading w i) x ∷ put_own own (i 
 abbrev pub finish : Meaning → ℕ → Option Job → State → State
 finish m t None s = s
 finish m t (Some k) s = record {
-  ports = put_own (slice_index m.sheet.owns t) 0 s.ports (m.work t k.taken);
+  ports = put_own (owns_of m.sheet t) 0 s.ports (m.work t k.taken);
   queue = s.queue;
   pending = changed s.pending t None;
   running = None;

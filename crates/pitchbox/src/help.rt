@@ -82,14 +82,12 @@ fn print_wires(rt: &HostRuntime, part: Part, from: u32, to: u32) -> io::Result<(
 // The parts of the drive: for drivers and tasks the ports that they read and write.
 pub fn print_drive(rt: &HostRuntime, sheet: &Sheet) -> io::Result<()> {
     println!(rt; "  drivers, by number from 0, with the ports they read and write")?;
-    for d in 0..sheet.drivers {
-        let at = d as usize;
-        print_wires(rt, Part::Driver(d), sheet.reads[at], sheet.writes[at])?;
+    for (d, driver) in (0..sheet.drivers).zip(sheet.driver_ports) {
+        print_wires(rt, Part::Driver(d), driver.reads, driver.writes)?;
     }
     println!(rt; "  tasks, by number from 0, with the ports they read and own")?;
-    for t in 0..sheet.tasks {
-        let at = t as usize;
-        print_wires(rt, Part::Task(t), sheet.sees[at], sheet.owns[at])?;
+    for (t, task) in (0..sheet.tasks).zip(sheet.task_ports) {
+        print_wires(rt, Part::Task(t), task.sees, task.owns)?;
     }
     Ok(())
 }

@@ -1,6 +1,6 @@
 // The names of the pitch drive's parts, each list in the order of their numbers.
 use std::fmt;
-use typing::in_set;
+use ecode::set::has_member;
 
 const PORTS: [&str; 8] = [
     "angle",
@@ -76,7 +76,7 @@ impl fmt::Display for TaskSet {
     fn fmt<W: fmt::Write>(&self, f: &mut fmt::Formatter<W>) -> fmt::Result {
         let mut some = false;
         for t in 0..8u8 {
-            if in_set(self.0, t) {
+            if has_member(u32::from(self.0), t) {
                 let task = Part::Task(t);
                 if some {
                     write!(f, " and ")?;

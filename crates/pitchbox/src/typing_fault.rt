@@ -5,11 +5,12 @@ use crate::listing::{Shown, Told};
 use crate::names::Part;
 use ecode::code::{Cell, Instruction, Line, Listing};
 use ecode::lines::line_at;
+use ecode::set::has_member;
 use ecode::sheet::Sheet;
 use std::fmt;
 use typing::{
-    cell_after, cell_at_target, flows_into, has_next, has_target, in_set, is_allowed, is_held,
-    parts_with_a_task, target_of,
+    cell_after, cell_at_target, flows_into, has_next, is_allowed, is_held, parts_with_a_task,
+    target_of,
 };
 
 // A rule that does not hold, with the task at which it breaks.
@@ -57,23 +58,22 @@ fn task_break(sheet: &Sheet, a: u16, t: u8, line: Line, next: Line, named: Line)
     }
     let comes = cell_at_target(instruction, t, here);
     let stands = named.row[at];
-    if has_target(instruction) && !flows_into(comes, stands) {
-        let to = target_of(instruction);
-        return Some(Break::Flow {
+    match target_of(instruction) {
+        Some(to) if !flows_into(comes, stands) => Some(Break::Flow {
             task: t,
             to,
             comes,
             stands,
-        });
+        }),
+        _ => None,
     }
-    None
 }
 
 fn row_break(sheet: &Sheet, listing: &Listing, a: u16, line: Line) -> Option<Break>
     requires { a < 200 }
 {
     let next = line_at(listing, a + 1);
-    let named = line_at(listing, target_of(line.instruction));
+    let named = line_at(listing, target_of(line.instruction).unwrap_or(0));
     for t in 0..sheet.tasks {
         if let Some(found) = task_break(sheet, a, t, line, next, named) {
             return Some(found);
@@ -118,7 +118,7 @@ fn demand(instruction: Instruction, task: u8) -> &'static str
         Instruction::Call { .. } =>
             "idle, or at the end of its window, since the driver uses its ports",
         Instruction::Release { .. } => "idle when it is released",
-        Instruction::Future { kept, .. } if in_set(kept, task) => "held, since the future keeps it",
+        Instruction::Future { kept, .. } if has_member(u32::from(kept), task) => "held, since the future keeps it",
         Instruction::Future { .. } =>
             "idle, not held, or released with at least the wait remaining",
         Instruction::Return => "idle or not held at a return",

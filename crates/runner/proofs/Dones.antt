@@ -7,13 +7,14 @@ use Rattle.machine.specs.declared.fault.RunFault.TheVariants.{NotRunning}
 use Rattle.machine.specs.State.{Job, State}
 use Rattle.machine.specs.Runner.{changed, put_own, finish, done}
 use Rattle.machine.specs.Calls.{Done, is_running, if_going, leaves, unless_over, done_answer}
+use Rattle.ecode.specs.Sheets.{owns_of}
 
 module _ (m : Meaning) (p : Contents) (t : ℕ) (s : State) (going : s.stop ≡ None) (runs : s.running ≡ Some t) where
   is_on : is_running s.running t ≡ true
   is_on = ap (λ o. is_running o t) runs ∙ eq-eqb t t refl
 
   pub ends : (k : Job) → s.pending t ≡ Some k → leaves m p (Done t) s ≡ record {
-    ports = put_own (get_or m.sheet.owns t 0) 0 s.ports (m.work t k.taken);
+    ports = put_own (owns_of m.sheet t) 0 s.ports (m.work t k.taken);
     queue = s.queue;
     pending = changed s.pending t None;
     running = None;

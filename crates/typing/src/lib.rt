@@ -10,10 +10,7 @@ ghost use Rattle.ecode.specs.Verdict.{code_rules};
 ghost use Rattle.ecode.specs.Parts.{FromImage};
 
 use crate::line::check_typing;
-pub use cell::{
-    cell_after, cell_at_target, flows_into, has_next, has_target, in_set, is_allowed, is_held,
-    target_of,
-};
+pub use cell::{cell_after, cell_at_target, flows_into, has_next, is_allowed, is_held, target_of};
 use ecode::code::Listing;
 use ecode::fault::CodeFault;
 use ecode::sheet::Sheet;

@@ -3,7 +3,7 @@
 use Rattle.std.specs.Prelude.{◌≡◌, ℕ, zero, suc, ◌+◌, ◌<◌, ◌≤◌, Bool, true, false, cond, ◌&&◌, ltb, List, ℤ, nat_lt, slice_index, slice_set, refl}
 use Rattle.std.proofs.Common.{sym, ap, ap₂, subst, arith}
 use Rattle.std.proofs.lemmas.Bool.{and_parts, eqb-true, lt-ltb, le-ltb}
-use Rattle.ecode.specs.Sheets.{In}
+use Rattle.ecode.specs.Sheets.{In, owns_of, reads_of, sees_of, writes_of}
 use Rattle.ecode.specs.Wiring.{has, all_below}
 use Rattle.ecode.proofs.Lists.{all_at}
 use Rattle.host.specs.Meaning.{reading, Local, Reads}
@@ -14,16 +14,16 @@ use Rattle.wide.specs.WideHost.{wide_drive, wide_work, wide_test}
 
 -- the sets that the sheet gives a driver and a task
 abbrev pub writes : ℕ → ℕ
-writes d = slice_index wide_sheet.writes d
+writes d = writes_of wide_sheet d
 
 abbrev pub reads : ℕ → ℕ
-reads d = slice_index wide_sheet.reads d
+reads d = reads_of wide_sheet d
 
 abbrev pub owns : ℕ → ℕ
-owns t = slice_index wide_sheet.owns t
+owns t = owns_of wide_sheet t
 
 abbrev pub sees : ℕ → ℕ
-sees t = slice_index wide_sheet.sees t
+sees t = sees_of wide_sheet t
 
 -- a driver writes its number and reads 16 above it
 pub driver_ports : ℕ → Bool

@@ -1,8 +1,7 @@
-use Rattle.std.proofs.Common.{Err, sym, ap, ◌∙◌, subst}
-use Rattle.std.proofs.lemmas.Result.{err_from_is_err_and}
-use Rattle.ecode.specs.Rules.{Judged}
+use Rattle.std.proofs.Common.{◌∙◌}
 use Rattle.ecode.specs.Verdict.{code_rules}
 use Rattle.ecode.specs.Parts.{FromImage}
+use Rattle.ecode.proofs.Firsts.{judged_stop}
 use Rattle.typing.proofs.Layers.{image_refused, whole_sound, typing_decides}
 use Rattle.typing.proofs.check_code.Goals as goal
 
@@ -10,8 +9,8 @@ pub returns-in_err-listing : goal.returns-in_err-listing
 returns-in_err-listing c =
     let s = c.args.sheet.now in
     let im = c.args.image.now in
-    let p = err_from_is_err_and c.from_residual.result c.from_residual.ensures.1 in
-    subst (λ r. Judged (code_rules s im) (FromImage s im) r) (sym (p.1 ∙ ap Err p.2)) (image_refused s im c.in_err-listing.field-0.0 c.in_err-listing.ensures)
+    judged_stop (code_rules s im) (FromImage s im) c.from_residual.result _ c.from_residual.ensures.1
+    (image_refused s im c.in_err-listing.field-0.0 c.in_err-listing.ensures)
 
 pub check_typing-requires : goal.check_typing-requires
 check_typing-requires c =
@@ -22,8 +21,8 @@ returns-in_err-check_typing c =
     let s = c.args.sheet.now in
     let im = c.args.image.now in
     let got = c.in_ok-listing.ensures in
-    let p = err_from_is_err_and c.from_residual-in_err-check_typing.result c.from_residual-in_err-check_typing.ensures.1 in
-    subst (λ r. Judged (code_rules s im) (FromImage s im) r) (sym (p.1 ∙ ap Err p.2))
+    let q = c.from_residual-in_err-check_typing in
+    judged_stop (code_rules s im) (FromImage s im) q.result _ q.ensures.1
     (typing_decides s im c.in_ok-listing.listing got.1 got.0 ∙ c.in_err-check_typing.ensures)
 
 pub returns : goal.returns

@@ -1,26 +1,26 @@
-use Rattle.std.proofs.Common.{refl, lit≤}
-use Rattle.ecode.specs.Wiring.{all_below}
-use Rattle.ecode.proofs.Wired.{same_sheet}
+use Rattle.std.proofs.Common.{refl}
+use Rattle.ecode.proofs.Wired.{same_sheet, tables_keep}
 use Rattle.capi.specs.Wide.{wide_sheet}
 use Rattle.capi.proofs.wide.sheet.Goals as goal
 
--- the rules of a sheet: each is computed
+-- the tables are the sheet's, and so are the rules that they keep
 pub invariant_of-result : goal.invariant_of-result
-unfolding all_below
-invariant_of-result c = record {
-  has_ports = lit≤ tt;
-  few_ports = lit≤ tt;
-  few_drivers = lit≤ tt;
-  has_tasks = lit≤ tt;
-  few_tasks = lit≤ tt;
-  few_conditions = lit≤ tt;
-  written = refl;
-  read = refl;
-  owned = refl;
-  seen = refl;
-  looked = refl;
-  owned_once = refl;
-}
+invariant_of-result c =
+    let keep = tables_keep wide_sheet c.padded.ensures c.padded-2.ensures refl refl in
+    record {
+      has_ports = wide_sheet.has_ports;
+      few_ports = wide_sheet.few_ports;
+      few_drivers = wide_sheet.few_drivers;
+      has_tasks = wide_sheet.has_tasks;
+      few_tasks = wide_sheet.few_tasks;
+      few_conditions = wide_sheet.few_conditions;
+      written = keep.written;
+      read = keep.read;
+      owned = keep.owned;
+      seen = keep.seen;
+      looked = keep.looked;
+      owned_once = keep.owned_once;
+    }
 
 pub returns : goal.returns
-returns c = same_sheet _ wide_sheet refl refl refl refl refl refl refl refl refl refl
+returns c = same_sheet _ wide_sheet refl c.padded.ensures refl c.padded-2.ensures refl refl refl refl

@@ -1,47 +1,40 @@
-use Rattle.std.proofs.Common.{◌≡◌, ℕ, true, cond, eqb, length, get_or, take, Some, None, sym, refl, ap, ◌∙◌, arith, length-set, length-take, get_or-take, ext_get_or}
+use Rattle.std.proofs.Common.{◌≡◌, ℕ, true, false, cond, eqb, length, get_or, take, Some, None, ap, ◌∙◌, arith, rules, take_all}
+use borrow.Author.Tests.{tests}
 use Rattle.std.proofs.lemmas.Bool.{cond-true, eq-eqb}
+use Rattle.std.proofs.lemmas.List.{take-append-le}
+use Rattle.std.proofs.lemmas.Iterator.{YieldsList-from_slice, IsFirst-from_position}
 use Rattle.ecode.specs.declared.fault.LoadFault.TheVariants.{Budget}
 use Rattle.ecode.specs.Rules.{broken, one, each}
 use Rattle.ecode.specs.Image.{is_ticks}
-use Rattle.ecode.proofs.Firsts.{each_none, each_more, each_at}
-use Rattle.ecode.proofs.Lists.{fill_more}
+use Rattle.ecode.proofs.Firsts.{each_at, each_clean}
 use Rattle.loader.proofs.budget.read_budgets.Goals as goal
 
-pub loop-t-init : goal.loop-t-init
-loop-t-init c =
-    let f = λ (t : ℕ). one (is_ticks (get_or c.args.budgets.now t 0)) (Budget t) in
-    (refl, each_none f, λ k h. absurd (omega arith))
-
-pub loop-t-preserved : goal.loop-t-preserved
-loop-t-preserved c =
-    let bud = c.args.budgets.now in
-    let t = c.loop-t.t in
-    let f = λ (t : ℕ). one (is_ticks (get_or bud t 0)) (Budget t) in (
-      length-set _ _ _ ∙ c.loop-t.invariant.0,
-      each_more f t c.loop-t.invariant.1 ∙ ap (λ b. cond b None (Some (Budget t))) (sym c.if-not-is_tick_count.ensures),
-      fill_more (λ k. get_or bud k 0) c.loop-t.own t (get_or bud t 0) 0 (omega arith) c.loop-t.invariant.2 refl,
-    )
-
-pub returns-then-not-is_tick_count : goal.returns-then-not-is_tick_count
-returns-then-not-is_tick_count c =
+pub returns-in-Some : goal.returns-in-Some
+returns-in-Some c =
     let bud = c.args.budgets.now in
     let n = c.args.sheet.now.tasks in
-    let t = c.loop-t.t in
+    let t = c.in-Some.t in
     let f = λ (t : ℕ). one (is_ticks (get_or bud t 0)) (Budget t) in
     let long : eqb (length bud) n ≡ true = eq-eqb (length bud) n (omega arith) in
+    let at =
+    IsFirst-from_position _ _ (Some t) (λ b. is_ticks b ≡ false) (λ b. is_ticks b ≡ true) c.in-Some.ensures.ran (YieldsList-from_slice bud cc)
+    (λ x q k. search (rules, tests)) (λ x q k. search (rules, tests)) in
     cond-true (eqb (length bud) n) (broken (each n f)) (Some (Budget n)) long
-    ∙ each_at f t n (Budget t) c.loop-t-test.true c.loop-t.invariant.1 (ap (λ b. cond b None (Some (Budget t))) (sym c.if-not-is_tick_count.ensures))
+    ∙ each_at f t n (Budget t) (omega (arith, at.0))
+    (each_clean f t (λ k h. ap (λ b. cond b None (Some (Budget k))) (at.2 k 0 (omega arith) h)))
+    (ap (λ b. cond b None (Some (Budget t))) (at.1 0))
 
-pub returns : goal.returns
-returns c =
+pub returns-in-None : goal.returns-in-None
+returns-in-None c =
     let bud = c.args.budgets.now in
     let n = c.args.sheet.now.tasks in
-    let kept = c.loop-t.own in
     let f = λ (t : ℕ). one (is_ticks (get_or bud t 0)) (Budget t) in
-    let end : c.loop-t.t ≡ n = omega arith in
     let same : length bud ≡ n = omega arith in
     let long : eqb (length bud) n ≡ true = eq-eqb (length bud) n same in
-    let len : length (take n kept) ≡ length bud = simp length-take (omega arith) in (
-      cond-true (eqb (length bud) n) (broken (each n f)) (Some (Budget n)) long ∙ ap (λ k. broken (each k f)) (sym end) ∙ c.loop-t.invariant.1,
-      ext_get_or 0 (take n kept) bud len (λ k h. get_or-take n kept k 0 (omega arith) ∙ c.loop-t.invariant.2 k (omega arith)),
+    let all =
+    IsFirst-from_position _ _ None (λ b. is_ticks b ≡ false) (λ b. is_ticks b ≡ true) c.in-None.ensures.ran (YieldsList-from_slice bud cc)
+    (λ x q k. search (rules, tests)) (λ x q k. search (rules, tests)) in (
+      cond-true (eqb (length bud) n) (broken (each n f)) (Some (Budget n)) long
+          ∙ each_clean f n (λ k h. ap (λ b. cond b None (Some (Budget k))) (all k 0 (omega arith) (omega arith))),
+      ap (take n) c.padded.ensures ∙ take-append-le n bud _ (omega arith) ∙ take_all n bud (omega arith),
     )

@@ -1,5 +1,5 @@
 -- The load sum rises task by task, and stays within u128 because it is left as soon as it passes 1.
-use Rattle.std.proofs.Common.{◌≡◌, ℕ, zero, ◌+◌, ◌^◌, ◌<◌, ◌≤◌, cond, List, get_or, take, Some, None, sym, refl, ap, ◌∙◌, subst, arith, get_or-take}
+use Rattle.std.proofs.Common.{◌≡◌, ℕ, zero, ◌+◌, ◌^◌, ◌<◌, ◌≤◌, cond, List, length, get_or, take, Some, None, sym, refl, ap, ◌∙◌, subst, arith, length-take, rules}
 use native.Mathlib.Nat.{pow-le-pow_right}
 use Rattle.ecode.specs.declared.code.Line.{Line}
 use Rattle.ecode.specs.declared.fault.LoadFault.{LoadFault}
@@ -39,7 +39,7 @@ loop-t-preserved c =
     let new = c.with_task-sum.result in
     let w = c.least_window.result in
     let inv = c.loop-t.invariant in
-    let is = load_step ls (take n own) t w (get_or own t 0) c.loop-t.sum new inv.0 c.least_window.ensures (sym (get_or-take n own t 0 c.loop-t-test.true))
+    let is = load_step ls (take n own) t w (get_or (take c.from.result own) t 0) c.loop-t.sum new inv.0 c.least_window.ensures (ap (λ k. get_or (take k own) t 0) c.from.ensures)
     c.with_task-sum.ensures.parts c.with_task-sum.ensures.whole in
     let le : new.parts ≤ new.whole = omega arith in
     let small : w ≤ 255 = omega arith in (
@@ -57,15 +57,16 @@ returns-then-sum c =
     let t = c.loop-t.t in
     let new = c.with_task-sum.result in
     let inv = c.loop-t.invariant in
-    let is = load_step ls (take n own) t c.least_window.result (get_or own t 0) c.loop-t.sum new inv.0 c.least_window.ensures (sym (get_or-take n own t 0 c.loop-t-test.true))
+    let is = load_step ls (take n own) t c.least_window.result (get_or (take c.from.result own) t 0) c.loop-t.sum new inv.0 c.least_window.ensures (ap (λ k. get_or (take k own) t 0) c.from.ensures)
     c.with_task-sum.ensures.parts c.with_task-sum.ensures.whole in
     let lt : new.whole < new.parts = omega arith in
-    each_at (at ls (take n own)) t n (Overload t) c.loop-t-test.true inv.3
+    each_at (at ls (take n own)) t n (Overload t) (omega (arith, length-take c.from.result own)) inv.3
     (ap (λ b. cond b None (Some (Overload t))) (over_when ls (take n own) (t + 1) new is lt))
 
 pub returns : goal.returns
 returns c =
     let ls = lines_of c.args.program.now.listing in
     let bud = take c.args.sheet.now.tasks c.args.program.now.budgets in
-    let end : c.loop-t.t ≡ c.args.sheet.now.tasks = omega arith in
+    let eight : length c.args.program.now.budgets ≡ 8 = search rules in
+    let end : c.loop-t.t ≡ c.args.sheet.now.tasks = omega (arith, length-take c.from.result c.args.program.now.budgets, eight) in
     (ap (λ k. broken (each k (at ls bud))) (sym end) ∙ c.loop-t.invariant.3, subst (λ k. LoadIs k ls bud c.loop-t.sum) end c.loop-t.invariant.0)

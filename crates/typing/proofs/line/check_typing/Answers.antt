@@ -1,26 +1,29 @@
-use Rattle.std.proofs.Common.{ℕ, cond, Some, None, sym, ap, ◌∙◌}
+use Rattle.std.proofs.Common.{◌≡◌, ℕ, true, false, cond, Some, None, ap, arith, rules}
+use borrow.Author.Tests.{tests}
+use Rattle.std.proofs.lemmas.Iterator.{first_from_Range}
 use Rattle.ecode.specs.declared.fault.CodeFault.TheVariants.{Typing}
 use Rattle.ecode.specs.Rules.{one}
 use Rattle.ecode.specs.Typing.{well_typed}
 use Rattle.ecode.specs.Verdict.{lines_of}
-use Rattle.ecode.proofs.Firsts.{each_none, each_more, each_at}
+use Rattle.ecode.proofs.Firsts.{each_at, each_clean}
 use Rattle.typing.proofs.line.check_typing.Goals as goal
 
-pub loop-a-init : goal.loop-a-init
-loop-a-init c =
+pub returns-in-Some : goal.returns-in-Some
+returns-in-Some c =
+    let s = c.args.sheet.now in
     let b = c.args.listing.now in
-    let f = λ (a : ℕ). one (well_typed c.args.sheet.now (lines_of b) b.entry a) (Typing a) in
-    each_none f
+    let typed = λ (a : ℕ). well_typed s (lines_of b) b.entry a in
+    let f = λ (a : ℕ). one (typed a) (Typing a) in
+    let at = first_from_Range _ _ _ (Some c.in-Some.address) (λ k. typed k ≡ false) (λ k. typed k ≡ true) c.in-Some.ensures.ran (λ x q k. search (rules, tests)) (λ x q k. search (rules, tests)) in
+    each_at f c.in-Some.address b.count (Typing c.in-Some.address) at.1
+    (each_clean f c.in-Some.address (λ k h. ap (λ t. cond t None (Some (Typing k))) (at.3 k (omega arith) h)))
+    (ap (λ t. cond t None (Some (Typing c.in-Some.address))) at.2)
 
-pub loop-a-preserved : goal.loop-a-preserved
-loop-a-preserved c =
+pub returns-in-None : goal.returns-in-None
+returns-in-None c =
+    let s = c.args.sheet.now in
     let b = c.args.listing.now in
-    let f = λ (a : ℕ). one (well_typed c.args.sheet.now (lines_of b) b.entry a) (Typing a) in
-    each_more f c.loop-a.a c.loop-a.invariant ∙ ap (λ t. cond t None (Some (Typing c.loop-a.a))) (sym c.if-not-is_well_typed.ensures)
-
-pub returns-then-not-is_well_typed : goal.returns-then-not-is_well_typed
-returns-then-not-is_well_typed c =
-    let b = c.args.listing.now in
-    let a = c.loop-a.a in
-    let f = λ (a : ℕ). one (well_typed c.args.sheet.now (lines_of b) b.entry a) (Typing a) in
-    each_at f a b.count (Typing a) c.loop-a-test.true c.loop-a.invariant (ap (λ t. cond t None (Some (Typing a))) (sym c.if-not-is_well_typed.ensures))
+    let typed = λ (a : ℕ). well_typed s (lines_of b) b.entry a in
+    let f = λ (a : ℕ). one (typed a) (Typing a) in
+    let all = first_from_Range _ _ _ None (λ k. typed k ≡ false) (λ k. typed k ≡ true) c.in-None.ensures.ran (λ x q k. search (rules, tests)) (λ x q k. search (rules, tests)) in
+    (each_clean f b.count (λ k h. ap (λ t. cond t None (Some (Typing k))) (all k (omega arith) h)), tt)

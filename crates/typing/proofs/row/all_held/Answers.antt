@@ -1,15 +1,20 @@
-use Rattle.std.proofs.Common.{ℕ, get_or, sym}
+use Rattle.std.proofs.Common.{◌≡◌, length, take, ◌∙◌, arith, length-take, get_or-take, rules, ap}
+use borrow.Author.Tests.{tests}
+use Rattle.std.proofs.lemmas.Iterator.{YieldsList-from_slice, YieldsList-from_take}
+use Rattle.std.proofs.lemmas.Iterator.Consumers.{YieldsList-at}
+use Rattle.std.proofs.lemmas.Iterator.Search.{all_from_yields_List}
+use Rattle.ecode.specs.declared.code.Cell.{Cell}
 use Rattle.ecode.specs.declared.code.Cell.TheVariants.{NotHeld}
 use Rattle.ecode.specs.Typing.{held}
-use Rattle.ecode.proofs.Lists.{all_none, all_more, all_fails}
+use Rattle.ecode.proofs.Lists.{all_places}
 use Rattle.typing.proofs.row.all_held.Goals as goal
 
-pub loop-t-init : goal.loop-t-init
-loop-t-init c = all_none (λ (t : ℕ). held (get_or c.args.row.now t NotHeld))
-
-pub loop-t-preserved : goal.loop-t-preserved
-loop-t-preserved c = all_more (λ (t : ℕ). held (get_or c.args.row.now t NotHeld)) c.loop-t.t c.loop-t.invariant (sym c.if-not-is_held.ensures)
-
-pub returns-then-not-is_held : goal.returns-then-not-is_held
-returns-then-not-is_held c =
-    sym (all_fails (λ (t : ℕ). held (get_or c.args.row.now t NotHeld)) c.loop-t.t c.args.sheet.now.tasks c.loop-t-test.true (sym c.if-not-is_held.ensures))
+pub returns : goal.returns
+returns c =
+    let row = c.args.row.now in
+    let n = c.args.sheet.now.tasks in
+    let eight : length row ≡ 8 = search rules in
+    let long : length (take n row) ≡ n = simp length-take (omega arith) in
+    all_from_yields_List (λ (x : Cell). held x) _ _ _ c.all.ensures.ran
+    (YieldsList-from_take n (YieldsList-at c.take.ensures.source (YieldsList-from_slice row cc)) cc) (λ x b q k. search (rules, tests))
+    ∙ all_places (λ (x : Cell). held x) (take n row) NotHeld n _ long (λ t h. ap held (get_or-take n row t NotHeld h))

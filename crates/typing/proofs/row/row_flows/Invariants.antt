@@ -1,8 +1,0 @@
-use Rattle.std.proofs.Common.{◌≡◌, true, get_or}
-use Rattle.ecode.specs.declared.code.Cell.TheVariants.{NotHeld}
-use Rattle.ecode.specs.Wiring.{all_below}
-use Rattle.ecode.specs.Typing.{flows}
-use Rattle.typing.proofs.row.row_flows.Given as goal
-
-abbrev pub invariant-loop-t : goal.invariant-loop-t
-invariant-loop-t l = all_below l.t (λ t. flows (get_or l.row t NotHeld) (get_or l.into t NotHeld)) ≡ true
