@@ -18,7 +18,7 @@ pub struct EndStops<H> {
     table: StopTable,
 }
 
-// The value, or the nearer bound if it lies outside. No `clamp`, which asks that low is not above high: `held` is for any two bounds.
+// The value, or the nearer bound if it lies outside. Not `clamp`, which asks that low is not above high: any two bounds will do.
 fn hold_within(low: i32, high: i32, value: i32) -> i32
     ensures { result ≡ held low high value }
 {
