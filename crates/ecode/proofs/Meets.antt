@@ -1,5 +1,5 @@
 -- Two masks meet exactly when they have a member in common. Assumes nothing.
-use Rattle.std.proofs.Common.{◌≡◌, ℕ, zero, suc, ◌/◌, ◌%◌, ◌^◌, ◌≤◌, min, not, eqb, get_or, Decides, sym, ap, ◌∙◌, inl, inr, div-one, one-add, arith, pow_pos, shr-shr}
+use Rattle.std.proofs.Common.{◌≡◌, ℕ, zero, suc, ◌/◌, ◌%◌, ◌^◌, ◌≤◌, min, not, eqb, Decides, sym, ap, ◌∙◌, inl, inr, div-one, one-add, arith, pow_pos, shr-shr}
 use native.Mathlib.Nat.{div-eq_of_lt}
 use lib.Arith.{half_le}
 use lib.Bits.{bit_and, and_step, and_shr, and_zero_l}
