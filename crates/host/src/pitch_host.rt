@@ -91,7 +91,9 @@ impl Host for PitchHost {
 
     fn work(&mut self, task: u8) {
         match task {
-            0 => self.ports.set(CONTROL_OUT, command_for(self.ports.get(FILTERED))),
+            0 => self
+                .ports
+                .set(CONTROL_OUT, command_for(self.ports.get(FILTERED))),
             1 => {
                 let angle = smooth(self.ports.get(FILTER_MEMORY), self.ports.get(RAW));
                 self.ports.set(FILTER_OUT, angle);
