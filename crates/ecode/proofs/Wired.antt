@@ -49,7 +49,8 @@ module _ (ports : ℕ) (kinds : List PortKind) (wanted : PortKind → Bool) wher
   members_fit (z ∷ sets) zero p e m = member_fits z p (and_parts (fits_ports ports kinds wanted z) (within ports kinds wanted sets) e).0 m
   members_fit (z ∷ sets) (suc i) p e m = members_fit sets i p (and_parts (fits_ports ports kinds wanted z) (within ports kinds wanted sets) e).1 m
 
-driver_kind : (k : PortKind) → is_driver k ≡ true → k ≡ Driver
+-- a test that only one kind passes
+pub driver_kind : (k : PortKind) → is_driver k ≡ true → k ≡ Driver
 driver_kind Sensor e = let z : ◌≡◌ {A = ℕ} 0 1 = cc in absurd (omega arith)
 driver_kind Driver e = refl
 driver_kind Task e = let z : ◌≡◌ {A = ℕ} 0 1 = cc in absurd (omega arith)

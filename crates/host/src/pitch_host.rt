@@ -1,9 +1,7 @@
 // The pitch drive as a host: eight ports, three drivers that each copy a port, and the tasks control and filter.
 ghost use Rattle.std.specs.Prelude.{◌≡◌, replicate, pos};
 ghost use Rattle.host.specs.PitchHost.{control, smoothed, pitch_meaning};
-ghost use Rattle.ecode.proofs.Wired.{sheet_rules};
-ghost use Rattle.host.specs.Pitch.{pitch_sheet};
-ghost use Rattle.host.specs.PitchLaws.{drives, works, drives_off, works_off, tests, tests_off};
+ghost use Rattle.host.specs.PitchLaws.{pitch_lawful};
 
 use crate::host::Host;
 use crate::pitch::sheet;
@@ -63,16 +61,7 @@ impl Host for PitchHost {
 
     ghost meaning = { λ _. pitch_meaning };
 
-    ghost lawful = { λ s.
-        record {
-          rules = sheet_rules pitch_sheet;
-          drives = drives;
-          works = works;
-          tests = tests;
-          drives_off = drives_off;
-          works_off = works_off;
-          tests_off = tests_off;
-        } };
+    ghost lawful = { λ _. pitch_lawful };
 
     ghost long = { λ s. s.ports.long };
 

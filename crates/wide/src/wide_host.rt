@@ -1,9 +1,7 @@
 // The wide drive as a host: 26 ports, nine drivers that each copy a port, and eight tasks of one formula.
 ghost use Rattle.std.specs.Prelude.{◌≡◌, replicate, pos};
 ghost use Rattle.wide.specs.WideHost.{wide_meaning};
-ghost use Rattle.ecode.proofs.Wired.{sheet_rules};
-ghost use Rattle.wide.specs.Wide.{wide_sheet};
-ghost use Rattle.wide.specs.WideLaws.{drives, works, drives_off, works_off, tests, tests_off};
+ghost use Rattle.wide.specs.WideLaws.{wide_lawful};
 
 use crate::sheet::sheet;
 use ecode::sheet::Sheet;
@@ -44,16 +42,7 @@ impl Host for WideHost {
 
     ghost meaning = { λ _. wide_meaning };
 
-    ghost lawful = { λ s.
-        record {
-          rules = sheet_rules wide_sheet;
-          drives = drives;
-          works = works;
-          tests = tests;
-          drives_off = drives_off;
-          works_off = works_off;
-          tests_off = tests_off;
-        } };
+    ghost lawful = { λ _. wide_lawful };
 
     ghost long = { λ s. s.ports.long };
 
