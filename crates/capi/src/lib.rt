@@ -1,18 +1,18 @@
 // The check by numbers, as callers in C want it: bytes in, a refusal's number out, 0 where the image is accepted. capi_c exports it.
 #![tactic(auto)]
 
-pub mod wide;
-
 ghost use Rattle.std.specs.Prelude.{◌≡◌};
 ghost use Rattle.ecode.specs.Verdict.{verdict};
 ghost use Rattle.host.specs.Pitch.{pitch_sheet};
 ghost use Rattle.capi.specs.Numbers.{number};
-ghost use Rattle.capi.specs.Wide.{wide_sheet};
+ghost use Rattle.wide.specs.Wide.{plain_sheet};
 
 use ecode::sheet::Sheet;
 use host::pitch;
 use loader::check;
+use wide::sheet;
 
+// The number of the verdict by a sheet.
 fn number_of(sheet: &Sheet, image: &[u8], budgets: &[u8]) -> u8
     ensures { result ≡ number (verdict sheet.now image.now budgets.now) }
 {
@@ -22,18 +22,16 @@ fn number_of(sheet: &Sheet, image: &[u8], budgets: &[u8]) -> u8
     }
 }
 
-// The check for the pitch drive.
+// The check for the pitch drive. C has no sheets of ours to hand over, so each drive has a function of its own.
 pub fn pitch_check(image: &[u8], budgets: &[u8]) -> u8
     ensures { result ≡ number (verdict pitch_sheet image.now budgets.now) }
 {
-    let sheet = pitch::sheet();
-    number_of(&sheet, image, budgets)
+    number_of(&pitch::sheet(), image, budgets)
 }
 
 // The check for the drive with eight tasks, for measuring.
 pub fn wide_check(image: &[u8], budgets: &[u8]) -> u8
-    ensures { result ≡ number (verdict wide_sheet image.now budgets.now) }
+    ensures { result ≡ number (verdict plain_sheet image.now budgets.now) }
 {
-    let sheet = wide::sheet();
-    number_of(&sheet, image, budgets)
+    number_of(&sheet::plain(), image, budgets)
 }

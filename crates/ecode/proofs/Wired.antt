@@ -50,7 +50,8 @@ module _ (ports : ℕ) (kinds : List PortKind) (wanted : PortKind → Bool) wher
   members_fit (z ∷ sets) zero p e m = member_fits z p (and_parts (fits_ports ports kinds wanted z) (within ports kinds wanted sets) e).0 m
   members_fit (z ∷ sets) (suc i) p e m = members_fit sets i p (and_parts (fits_ports ports kinds wanted z) (within ports kinds wanted sets) e).1 m
 
-driver_kind : (k : PortKind) → is_driver k ≡ true → k ≡ Driver
+-- a test that only one kind passes
+pub driver_kind : (k : PortKind) → is_driver k ≡ true → k ≡ Driver
 driver_kind Sensor e = let z : ◌≡◌ {A = ℕ} 0 1 = cc in absurd (omega arith)
 driver_kind Driver e = refl
 driver_kind Task e = let z : ◌≡◌ {A = ℕ} 0 1 = cc in absurd (omega arith)
@@ -126,19 +127,30 @@ same_sheet a b ports kinds drivers driver_ports tasks task_ports conditions look
   owned_once = is_prop→PathP (λ i. apart (owns_in (task_ports i)) ≡ true) (λ i. Bool-set _ true) a.owned_once b.owned_once i;
 }
 
--- what the rules of a sheet say of these tables
-pub record Keep (ports : ℕ) (kinds : List PortKind) (drivers : List DriverPorts) (tasks : List TaskPorts) (looks : List ℕ) : Type 0 where
-  pub written : within ports kinds is_driver (writes_in drivers) ≡ true
-  pub read : within ports kinds not_driver (reads_in drivers) ≡ true
-  pub owned : within ports kinds is_task (owns_in tasks) ≡ true
-  pub seen : within ports kinds is_driver (sees_in tasks) ≡ true
-  pub looked : within ports kinds not_task looks ≡ true
-  pub owned_once : apart (owns_in tasks) ≡ true
-
--- tables equal to those of a sheet keep its rules
+-- tables equal to those of a sheet keep its rules, in the form that a function which makes the sheet has to show
 pub tables_keep : (s : Sheet) {kinds : List PortKind} {drivers : List DriverPorts} {tasks : List TaskPorts} {looks : List ℕ}
-    → kinds ≡ s.kinds → drivers ≡ s.driver_ports → tasks ≡ s.task_ports → looks ≡ s.looks → Keep s.ports kinds drivers tasks looks
+    → kinds ≡ s.kinds → drivers ≡ s.driver_ports → tasks ≡ s.task_ports → looks ≡ s.looks
+    → record {
+      has_ports : 1 ≤ s.ports;
+      few_ports : s.ports ≤ 32;
+      few_drivers : s.drivers ≤ 32;
+      has_tasks : 1 ≤ s.tasks;
+      few_tasks : s.tasks ≤ 8;
+      few_conditions : s.conditions ≤ 16;
+      written : within s.ports kinds is_driver (writes_in drivers) ≡ true;
+      read : within s.ports kinds not_driver (reads_in drivers) ≡ true;
+      owned : within s.ports kinds is_task (owns_in tasks) ≡ true;
+      seen : within s.ports kinds is_driver (sees_in tasks) ≡ true;
+      looked : within s.ports kinds not_task looks ≡ true;
+      owned_once : apart (owns_in tasks) ≡ true;
+    }
 tables_keep s k d t l = record {
+  has_ports = s.has_ports;
+  few_ports = s.few_ports;
+  few_drivers = s.few_drivers;
+  has_tasks = s.has_tasks;
+  few_tasks = s.few_tasks;
+  few_conditions = s.few_conditions;
   written = ap₂ (λ k d. within s.ports k is_driver (writes_in d)) k d ∙ s.written;
   read = ap₂ (λ k d. within s.ports k not_driver (reads_in d)) k d ∙ s.read;
   owned = ap₂ (λ k t. within s.ports k is_task (owns_in t)) k t ∙ s.owned;

@@ -1,6 +1,7 @@
 pub mod Rules
 pub mod Wiring
 pub mod Sheets
+pub mod Tables
 pub mod Instructions
 pub mod Image
 pub mod Typing

@@ -5,19 +5,13 @@ use Rattle.std.specs.List.{AllByRecursion}
 use Rattle.std.proofs.ByRecursion.{All-push, All-weaker}
 use Rattle.std.proofs.lemmas.List.{length_push, take_more_set, at_drop_more, at_drop_all}
 use Rattle.std.proofs.lemmas.Bool.{and_parts, and_from, and_left, and_cases, or_cases, or_parts, both_ways, cases_Bool, eqb-true, eqb-false, le-ltb, lt-ltb, ltb-true, ltb-false, not-true}
-use Rattle.ecode.specs.declared.port.PortKind.{PortKind}
-use Rattle.ecode.specs.declared.port.PortKind.TheVariants.{Sensor, Driver, Task}
 use Rattle.ecode.specs.declared.sheet.Sheet.{Sheet}
 use Rattle.ecode.specs.Wiring.{is_driver}
+use Rattle.ecode.proofs.Wired.{driver_kind}
 use Rattle.ecode.specs.Sheets.{kind}
 use Rattle.host.specs.declared.stop.Stop.{Stop}
 use Rattle.host.specs.Stops.{is_driver_port, names_port, admissible, admitted, admitted_all, kept_of}
 use Rattle.host.specs.StopLaws.{Named, Among, Once, Proper, KeptRules}
-
-driver_kind : (k : PortKind) → is_driver k ≡ true → k ≡ Driver
-driver_kind Sensor e = let z : ◌≡◌ {A = ℕ} 0 1 = cc in absurd (omega arith)
-driver_kind Driver e = refl
-driver_kind Task e = let z : ◌≡◌ {A = ℕ} 0 1 = cc in absurd (omega arith)
 
 -- a stop is put behind those of a table
 pub kept_push : (sheet : Sheet) (stops : List Stop) (count : ℕ) (n : Stop) → count < length stops → count < 4 → true ≡ admissible sheet (take count stops) n

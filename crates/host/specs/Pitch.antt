@@ -3,14 +3,14 @@
 --                  port 0 to 3, driver 1 copies 6 to 2, driver 2 copies 5 to 4; task 0, control, owns 5 and reads 2, task 1,
 --                  filter, owns 6 and 7 and reads 3; condition 0 reads 1
 use Rattle.std.specs.Prelude.{◌≡◌, ℕ, true, List, ◌∷◌, replicate, refl}
-use Rattle.std.proofs.Common.{lit≤}
 use Rattle.ecode.specs.declared.port.PortKind.{PortKind}
 use Rattle.ecode.specs.declared.port.PortKind.TheVariants.{Sensor, Driver, Task}
 use Rattle.ecode.specs.declared.sheet.Sheet.{Sheet}
 use Rattle.ecode.specs.declared.sheet.DriverPorts.{DriverPorts}
 use Rattle.ecode.specs.declared.sheet.TaskPorts.{TaskPorts}
 use Rattle.ecode.specs.Sheets.{driver, task}
-use Rattle.ecode.specs.Wiring.{writes_in, reads_in, owns_in, sees_in, all_below, within, is_driver, is_task, not_driver, not_task}
+use Rattle.ecode.specs.Tables.{Tables, keep_rules, sheet_of}
+use Rattle.ecode.specs.Wiring.{all_below}
 
 -- the kinds of the ports; from port 8 on they do not count
 abbrev pub kinds_table : List PortKind
@@ -28,30 +28,8 @@ tasks_table = task 0x20 0x04 ∷ task 0xc0 0x08 ∷ replicate 6 (task 0 0)
 abbrev pub looks_table : List ℕ
 looks_table = 0x02 ∷ replicate 15 0
 
--- the tables keep the rules of a sheet: each is computed
-pub written : within 8 kinds_table is_driver (writes_in drivers_table) ≡ true
-unfolding all_below
-written = refl
-
-pub read : within 8 kinds_table not_driver (reads_in drivers_table) ≡ true
-unfolding all_below
-read = refl
-
-pub owned : within 8 kinds_table is_task (owns_in tasks_table) ≡ true
-unfolding all_below
-owned = refl
-
-pub seen : within 8 kinds_table is_driver (sees_in tasks_table) ≡ true
-unfolding all_below
-seen = refl
-
-pub looked : within 8 kinds_table not_task looks_table ≡ true
-unfolding all_below
-looked = refl
-
--- the sheet, with the proofs of its rules
-abbrev pub pitch_sheet : Sheet
-pitch_sheet = record {
+abbrev pub pitch_tables : Tables
+pitch_tables = record {
   ports = 8;
   kinds = kinds_table;
   drivers = 3;
@@ -60,16 +38,12 @@ pitch_sheet = record {
   task_ports = tasks_table;
   conditions = 1;
   looks = looks_table;
-  has_ports = lit≤ tt;
-  few_ports = lit≤ tt;
-  few_drivers = lit≤ tt;
-  has_tasks = lit≤ tt;
-  few_tasks = lit≤ tt;
-  few_conditions = lit≤ tt;
-  written = written;
-  read = read;
-  owned = owned;
-  seen = seen;
-  looked = looked;
-  owned_once = refl;
 }
+
+-- they keep the rules of a sheet: it is computed
+pub pitch_kept : keep_rules pitch_tables ≡ true
+unfolding all_below
+pitch_kept = refl
+
+abbrev pub pitch_sheet : Sheet
+pitch_sheet = sheet_of pitch_tables pitch_kept

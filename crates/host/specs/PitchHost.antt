@@ -1,6 +1,7 @@
 -- What the pitch drive does, by formulas on whole numbers.
 --   control, smoothed               what the tasks compute
 --   copied, both                    a port copied to another; filter's two ports set
+--   selected                        the one condition that both of our drives have: the port of the selector is not 0
 --   pitch_drive, pitch_work, pitch_test    what each driver and task makes of the ports, and what the condition says
 --   pitch_meaning                   the sheet of the pitch drive with these functions
 use Rattle.std.specs.Prelude.{ℕ, zero, suc, Bool, true, false, List, ℤ, pos, negsuc, ◌+ℤ◌, ◌-ℤ◌, int_div, slice_set}
@@ -43,10 +44,13 @@ nonzero (pos zero) = false
 nonzero (pos (suc n)) = true
 nonzero (negsuc n) = true
 
--- condition 0: the selector is on
+-- condition 0: the selector, at this port, is on; there is no other condition
+abbrev pub selected : ℕ → ℕ → List ℤ → Bool
+selected port zero xs = nonzero (reading xs port)
+selected port (suc q) xs = false
+
 abbrev pub pitch_test : ℕ → List ℤ → Bool
-pitch_test zero xs = nonzero (reading xs 1)
-pitch_test (suc q) xs = false
+pitch_test = selected 1
 
 -- the pitch drive
 abbrev pub pitch_meaning : Meaning

@@ -5,7 +5,7 @@
 --   KeptRules        what the kept stops are: proper, no port twice, at most four, and none passed over without a reason
 --   Stopping         what they do: a driver's ports end within their bounds, at the nearer one or where they were
 --   EndStopsHold     a layer of kept stops does this over every lawful host
-use Rattle.std.specs.Prelude.{◌≡◌, ℕ, ◌<◌, ◌≤◌, ◌⊎◌, List, [], ◌∷◌, length, ℤ, ◌≤ℤ◌, slice_index}
+use Rattle.std.specs.Prelude.{◌≡◌, ℕ, ◌<◌, ◌≤◌, ◌⊎◌, List, [], ◌∷◌, length, ℤ, ◌≤ℤ◌}
 use Rattle.std.specs.List.{AllByRecursion}
 use Rattle.ecode.specs.declared.port.PortKind.TheVariants.{Driver}
 use Rattle.ecode.specs.declared.sheet.Sheet.{Sheet}

@@ -5,7 +5,8 @@
 --   admitted, kept_of    a name kept if it is so and there is room; all names that are kept, in their order
 --   stop_one, stop_all    the ports with each named port that is written brought to the nearer bound
 --   stopped          the meaning of a layer of end stops over a lower meaning
-use Rattle.std.specs.Prelude.{ℕ, Bool, false, cond, not, ◌&&◌, ◌||◌, List, [], ◌∷◌, ◌++◌, length, take, ℤ, ◌==◌, int_le, nat_lt, slice_index, slice_set}
+use Rattle.std.specs.Prelude.{ℕ, Bool, cond, not, ◌&&◌, List, [], ◌∷◌, ◌++◌, length, take, ℤ, ◌==◌, int_le, nat_lt, slice_set}
+use Rattle.std.specs.List.{list_any}
 use Rattle.ecode.specs.declared.sheet.Sheet.{Sheet}
 use Rattle.ecode.specs.Wiring.{has, is_driver}
 use Rattle.ecode.specs.Sheets.{kind, writes_of}
@@ -24,8 +25,7 @@ is_driver_port sheet p = nat_lt p sheet.ports && is_driver (kind sheet p)
 
 -- some stop names the port
 abbrev pub names_port : ℕ → List Stop → Bool
-names_port p [] = false
-names_port p (s ∷ ss) = s.port == p || names_port p ss
+names_port p ss = list_any (λ s. s.port == p) ss
 
 -- a name that may be kept beside those that are
 abbrev pub admissible : Sheet → List Stop → Stop → Bool

@@ -1,6 +1,5 @@
 // End stops: a layer over any host that holds driver ports within bounds, and is a host itself.
 ghost use Rattle.std.specs.Prelude.{◌≡◌};
-ghost use Rattle.ecode.specs.Wiring.{has};
 ghost use Rattle.host.specs.Bounds.{held};
 ghost use Rattle.host.specs.Stops.{kept, kept_of, stop_one, stop_all, stopped};
 ghost use Rattle.host.specs.StopLaws.{KeptRules};
@@ -9,6 +8,7 @@ ghost use Rattle.std.proofs.Common.{rules};
 
 use crate::host::Host;
 use crate::stop::{Stop, StopTable};
+use ecode::set::has_member;
 use ecode::sheet::Sheet;
 
 // The host below, and the ports that are held.
@@ -18,7 +18,7 @@ pub struct EndStops<H> {
     table: StopTable,
 }
 
-// The value, or the nearer bound if it lies outside.
+// The value, or the nearer bound if it lies outside. Not `clamp`, which asks that low is not above high: any two bounds will do.
 fn hold_within(low: i32, high: i32, value: i32) -> i32
     ensures { result ≡ held low high value }
 {
@@ -31,19 +31,12 @@ fn hold_within(low: i32, high: i32, value: i32) -> i32
     }
 }
 
-// Whether a set of ports has the port.
-fn has_port(set: u32, port: u8) -> bool
-    ensures { result ≡ has set port }
-{
-    port < 32 && (set >> port) % 2 == 1
-}
-
 // Holds the stop's port within its bounds, if it is one of those written.
 fn stop_port<H: Host>(host: &mut H, written: u32, stop: Stop)
     ensures after { H.Host.ports host.new ≡ stop_one written stop (H.Host.ports host.old) }
     ensures same { H.Host.meaning host.new ≡ H.Host.meaning host.old }
 {
-    if has_port(written, stop.port) {
+    if has_member(written, stop.port) {
         let value = host.look(stop.port);
         host.put(stop.port, hold_within(stop.low, stop.high, value));
     }

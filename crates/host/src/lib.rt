@@ -7,6 +7,7 @@ pub mod host;
 pub mod laws;
 pub mod pitch;
 pub mod pitch_host;
+pub mod port_values;
 pub mod stop;
 pub mod stop_table;
 #[cfg(test)]

@@ -9,7 +9,7 @@ pub struct Stop {
     pub high: i32,
 }
 
-// Up to four stops, the first `count` of `stops`.
+// Up to four stops, the first `count` of `stops`. Plain fields and `Copy`, as the project's rule has it, and so no `ArrayVec`.
 #[derive(Clone, Copy)]
 pub struct StopTable {
     pub(crate) stops: [Stop; 4],

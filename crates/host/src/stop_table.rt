@@ -18,23 +18,14 @@ const UNUSED: Stop = Stop {
 fn drives(sheet: &Sheet, port: u8) -> bool
     ensures { result ≡ is_driver_port sheet.now port }
 {
-    port < sheet.ports
-        && match sheet.kinds[port as usize] {
-            PortKind::Driver => true,
-            _ => false,
-        }
+    port < sheet.ports && sheet.kinds[port as usize] == PortKind::Driver
 }
 
 // Whether one of the stops has the port.
 fn names(stops: &[Stop], port: u8) -> bool
     ensures { result ≡ names_port port stops.now }
 {
-    for stop in stops {
-        if stop.port == port {
-            return true;
-        }
-    }
-    false
+    stops.iter().any(|stop| stop.port == port)
 }
 
 impl StopTable {
@@ -51,7 +42,7 @@ impl StopTable {
     pub fn in_use(&self) -> &[Stop]
         ensures { result.now ≡ kept self.now }
     {
-        &self.stops[0..self.count]
+        &self.stops[..self.count]
     }
 
     // Whether the name may be kept beside those that are.

@@ -29,10 +29,11 @@ impl Preference for Earliest {
     ghost settled = { Prim.search rules };
 
     fn prefers(&self, a: PendingTask, b: PendingTask) -> bool {
-        a.left < b.left || (a.left == b.left && a.task < b.task)
+        (a.left, a.task) < (b.left, b.task)
     }
 }
 
+// Not one impl for every preference: Steady remembers what was chosen, and each policy promises its own answer.
 impl Policy for Earliest {
     ghost mark = { earliest_mark };
 

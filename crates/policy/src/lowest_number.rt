@@ -33,6 +33,7 @@ impl Preference for LowestNumber {
     }
 }
 
+// Not one impl for every preference: Steady remembers what was chosen, and each policy promises its own answer.
 impl Policy for LowestNumber {
     ghost mark = { lowest_mark };
 

@@ -34,12 +34,9 @@ pub fn first<P: Preference>(preference: &P, pending: &[PendingTask]) -> Option<u
     ensures answer { FirstIn (P.Preference.ahead preference.now) pending.now result }
     ensures only { Only (FirstIn (P.Preference.ahead preference.now) pending.now) result }
 {
-    let [head, ..] = pending else {
-        return None;
-    };
-    let mut best = *head;
-    for candidate in pending {
-        best = better(preference, *candidate, best);
-    }
+    let best = pending
+        .iter()
+        .copied()
+        .reduce(|best, candidate| better(preference, candidate, best))?;
     Some(best.task)
 }

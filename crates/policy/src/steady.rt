@@ -32,10 +32,7 @@ impl Preference for Steady {
     ghost settled = { Prim.search rules };
 
     fn prefers(&self, a: PendingTask, b: PendingTask) -> bool {
-        if a.left != b.left {
-            return a.left < b.left;
-        }
-        self.last == Some(a.task) || (self.last != Some(b.task) && a.task < b.task)
+        (a.left, self.last != Some(a.task), a.task) < (b.left, self.last != Some(b.task), b.task)
     }
 }
 

@@ -1,11 +1,11 @@
 use crate::images::*;
-use capi::wide;
 use ecode::sheet::Sheet;
 use host::pitch;
 use loader::check as load;
 use loader::first::first_program;
 use loader::load::{least_window, load_sum};
 use std::test::Fail;
+use wide::sheet::plain;
 
 // The number and place of the refusal, 0 and 0 where the image is accepted.
 fn answer(sheet: &Sheet, image: &[u8], budgets: &[u8]) -> (u8, usize) {
@@ -28,7 +28,7 @@ fn accepts_the_examples(rt: HostRuntime) {
 
 #[test]
 fn three_thirds_fit_and_a_hair_more_does_not(rt: HostRuntime) {
-    let sheet = wide::sheet();
+    let sheet = plain();
     assert_eq!(rt;
         answer(&sheet, &thirds(), &[80, 80, 80, 240, 1, 1, 1, 240]),
         (0, 0)

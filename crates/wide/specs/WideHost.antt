@@ -1,9 +1,9 @@
 -- What the wide drive does, by formulas on whole numbers.
 --   wide_drive, wide_work, wide_test    what each driver and task makes of the ports, and what the condition says
 --   wide_meaning                        the sheet of the wide drive with these functions
-use Rattle.std.specs.Prelude.{ℕ, zero, suc, ◌+◌, Bool, false, cond, List, ℤ, nat_lt, slice_set}
+use Rattle.std.specs.Prelude.{ℕ, ◌+◌, Bool, cond, List, ℤ, nat_lt, slice_set}
 use Rattle.host.specs.Meaning.{Meaning, reading}
-use Rattle.host.specs.PitchHost.{smoothed, copied, nonzero}
+use Rattle.host.specs.PitchHost.{smoothed, copied, selected}
 use Rattle.wide.specs.Wide.{wide_sheet}
 
 -- driver d hands on what task d worked out; driver 8 takes in the sample
@@ -16,8 +16,7 @@ wide_work t xs = cond (nat_lt t 8) (slice_set xs (16 + t) (smoothed (reading xs 
 
 -- condition 0: the selector is on
 abbrev pub wide_test : ℕ → List ℤ → Bool
-wide_test zero xs = nonzero (reading xs 25)
-wide_test (suc q) xs = false
+wide_test = selected 25
 
 -- the wide drive
 abbrev pub wide_meaning : Meaning

@@ -1,16 +1,18 @@
 -- The wide drive keeps the law of hosts: each driver and task is made of the building blocks. Proofs alone: nothing here is to be
 -- believed, and the impl of the host cites it.
-use Rattle.std.specs.Prelude.{◌≡◌, ℕ, zero, suc, ◌+◌, ◌<◌, ◌≤◌, Bool, true, false, cond, ◌&&◌, ltb, List, ℤ, nat_lt, slice_index, slice_set, refl}
-use Rattle.std.proofs.Common.{sym, ap, ap₂, subst, arith}
+use Rattle.std.specs.Prelude.{◌≡◌, ℕ, ◌+◌, ◌<◌, ◌≤◌, Bool, true, false, cond, ◌&&◌, ltb, List, ℤ, nat_lt, slice_index, slice_set, refl}
+use Rattle.std.proofs.Common.{sym, ap₂, subst}
 use Rattle.std.proofs.lemmas.Bool.{and_parts, eqb-true, lt-ltb, le-ltb}
 use Rattle.ecode.specs.Sheets.{In, owns_of, reads_of, sees_of, writes_of}
 use Rattle.ecode.specs.Wiring.{has, all_below}
 use Rattle.ecode.proofs.Lists.{all_at}
-use Rattle.host.specs.Meaning.{reading, Local, Reads}
-use Rattle.host.specs.PitchHost.{smoothed, copied, nonzero}
+use Rattle.ecode.proofs.Wired.{sheet_rules}
+use Rattle.host.specs.Meaning.{reading, Local, Reads, Lawful}
+use Rattle.host.specs.PitchHost.{smoothed, copied}
+use Rattle.host.specs.PitchLaws.{selected_reads, selected_off}
 use Rattle.host.specs.Locals.{set_local}
 use Rattle.wide.specs.Wide.{wide_sheet}
-use Rattle.wide.specs.WideHost.{wide_drive, wide_work, wide_test}
+use Rattle.wide.specs.WideHost.{wide_drive, wide_work, wide_test, wide_meaning}
 
 -- the sets that the sheet gives a driver and a task
 abbrev pub writes : ℕ → ℕ
@@ -74,9 +76,18 @@ pub works_off : (t : ℕ) → 8 ≤ t → (xs : List ℤ) → wide_work t xs ≡
 works_off t h xs = let off : ltb t 8 ≡ false = le-ltb t 8 h in simp off
 
 pub tests : (q : ℕ) → q < 1 → Reads (slice_index wide_sheet.looks q) (wide_test q)
-tests zero h = record { depends = λ xs ys ar. ap nonzero (ar 25 refl) }
-tests (suc q) h = absurd (omega arith)
+tests = selected_reads wide_sheet 25 refl
 
 pub tests_off : (q : ℕ) → 1 ≤ q → (xs : List ℤ) → wide_test q xs ≡ false
-tests_off zero h xs = absurd (omega arith)
-tests_off (suc q) h xs = refl
+tests_off = selected_off 25
+
+pub wide_lawful : Lawful wide_meaning
+wide_lawful = record {
+  rules = sheet_rules wide_sheet;
+  drives = drives;
+  works = works;
+  tests = tests;
+  drives_off = drives_off;
+  works_off = works_off;
+  tests_off = tests_off;
+}

@@ -1,26 +1,12 @@
 use Rattle.std.proofs.Common.{refl}
 use Rattle.ecode.proofs.Wired.{same_sheet, tables_keep}
+use Rattle.ecode.specs.Sheets.{driver}
+use Rattle.wide.proofs.Made.{padded_with}
 use Rattle.wide.specs.Wide.{wide_sheet}
 use Rattle.wide.proofs.sheet.sheet.Goals as goal
 
--- the tables are the sheet's, and so are the rules that they keep
 pub invariant_of-result : goal.invariant_of-result
-invariant_of-result c =
-    let keep = tables_keep wide_sheet c.padded.ensures c.padded-2.ensures refl c.padded-3.ensures in
-    record {
-      has_ports = wide_sheet.has_ports;
-      few_ports = wide_sheet.few_ports;
-      few_drivers = wide_sheet.few_drivers;
-      has_tasks = wide_sheet.has_tasks;
-      few_tasks = wide_sheet.few_tasks;
-      few_conditions = wide_sheet.few_conditions;
-      written = keep.written;
-      read = keep.read;
-      owned = keep.owned;
-      seen = keep.seen;
-      looked = keep.looked;
-      owned_once = keep.owned_once;
-    }
+invariant_of-result c = tables_keep wide_sheet c.padded.ensures (padded_with 32 (driver 0 0) c.padded-2.ensures c.copying_drivers.ensures) c.tasks_reading.ensures c.padded-3.ensures
 
 pub returns : goal.returns
-returns c = same_sheet _ wide_sheet refl c.padded.ensures refl c.padded-2.ensures refl refl refl c.padded-3.ensures
+returns c = same_sheet _ wide_sheet refl c.padded.ensures refl (padded_with 32 (driver 0 0) c.padded-2.ensures c.copying_drivers.ensures) refl c.tasks_reading.ensures refl c.padded-3.ensures
