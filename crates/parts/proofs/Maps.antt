@@ -39,3 +39,22 @@ module _ {X : Type 0} (f : X → X) where
   upto_above (suc n) [] k d h = refl
   upto_above (suc n) (x ∷ xs) zero d h = absurd (omega arith)
   upto_above (suc n) (x ∷ xs) (suc k) d h = upto_above n xs k d (omega arith)
+
+-- the first i places have got their values, which stand in ys
+module _ {X : Type 0} where
+  pub filled_more : (ys xs : List X) (i : ℕ) (d : X) → i < length ys → i < length xs
+      → set (take i ys ++ drop i xs) i (get_or ys i d) ≡ take (i + 1) ys ++ drop (i + 1) xs
+  filled_more [] xs i d h l = absurd (omega arith)
+  filled_more (y ∷ ys) [] i d h l = absurd (omega arith)
+  filled_more (y ∷ ys) (x ∷ xs) zero d h l = refl
+  filled_more (y ∷ ys) (x ∷ xs) (suc i) d h l =
+      rw (add-one) (ap (λ l. y ∷ l) (filled_more ys xs i d (omega arith) (omega arith) ∙ ap (λ n. take n ys ++ drop n xs) (add-one i)))
+
+  -- the element at i, and what stands after it
+  pub at_front : (xs : List X) (i : ℕ) (x d : X) (rest : List X) → drop i xs ≡ x ∷ rest → (get_or xs i d ≡ x) × (rest ≡ drop (i + 1) xs)
+  at_front [] zero x d rest e = cc
+  at_front [] (suc i) x d rest e = cc
+  at_front (y ∷ ys) zero x d rest e = (cc, cc)
+  at_front (y ∷ ys) (suc i) x d rest e =
+      let later = at_front ys i x d rest e in
+      (later.0, later.1 ∙ ap (λ n. drop n (y ∷ ys)) (let z : suc (i + 1) ≡ suc i + 1 = omega arith in z))
