@@ -1,5 +1,5 @@
 // The data of the parts, with the bounds that the code over them rests on.
-ghost use Rattle.std.specs.Prelude.{◌≡◌, length};
+ghost use Rattle.std.specs.Prelude.{◌≡◌, ◌≤◌, length};
 
 use arrayvec::ArrayVec;
 use machine::binding::Binding;
@@ -20,6 +20,7 @@ pub struct Wiring {
 #[derive(Drop)]
 pub struct Queue {
     pub bindings: ArrayVec<Binding, 8>,
+    ghost few: { length bindings.items ≤ 8 },
 }
 
 // What the table keeps of one task, if it is pending: ticks left, slots used, and the ports as they were at its release.

@@ -1,5 +1,5 @@
 // The beginning of a tick: the slot that ended is charged, and time passes.
-ghost use Rattle.std.specs.Prelude.{◌≡◌, ℕ, ◌≤◌, false, List, [], length, None, slice_index};
+ghost use Rattle.std.specs.Prelude.{◌≡◌, ℕ, ◌≤◌, false, List, [], None, slice_index};
 ghost use Rattle.machine.specs.State.{Ports, Event, is_pending};
 ghost use Rattle.machine.specs.Runner.{charged, exhausted, opening};
 ghost use Rattle.parts.specs.declared.data.Wiring.{Wiring};
@@ -36,7 +36,6 @@ impl Progress {
     pub fn open<H: Host>(&mut self, host: &mut H, wiring: &Wiring, readings: &[i32])
         requires wired { WiredFor (H.Host.meaning host.old).sheet wiring.now }
         requires going { self.old.stop ≡ None }
-        requires enough { length readings.now ≡ wiring.now.sensors.len }
         requires below { (t : ℕ) → wiring.now.tasks ≤ t → is_pending (jobs wiring.now.ports self.old.table) t ≡ false }
         ensures after { (l : List Event) → standing wiring.now (H.Host.ports host.new) [] self.new ≡ opening (H.Host.meaning host.old) readings.now (standing wiring.now (H.Host.ports host.old) l self.old) (jobs wiring.now.ports self.old.table) }
         ensures same { H.Host.meaning host.new ≡ H.Host.meaning host.old }

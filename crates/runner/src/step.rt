@@ -31,7 +31,7 @@ impl Progress {
         requires wired { WiredFor (H.Host.meaning host.old).sheet wiring.now }
         requires bounds { Bounded (H.Host.meaning host.old).sheet (program_of wiring.now program.now).entry (program_of wiring.now program.now).lines }
         requires within { at < program.now.listing.count }
-        requires room { Room self.old.queue.len (instruction_at (program_of wiring.now program.now) at) }
+        requires room { Room (length (queued self.old.queue)) (instruction_at (program_of wiring.now program.now) at) }
         ensures turn { (l : List Event) → record { state = standing wiring.now (H.Host.ports host.new) (step (H.Host.meaning host.old) (program_of wiring.now program.now) at (standing wiring.now (H.Host.ports host.old) l self.old)).state.log self.new; next = next_of result } ≡ step (H.Host.meaning host.old) (program_of wiring.now program.now) at (standing wiring.now (H.Host.ports host.old) l self.old) }
         ensures same { H.Host.meaning host.new ≡ H.Host.meaning host.old }
         ensures told { Tells result self.old.stop self.new.stop }

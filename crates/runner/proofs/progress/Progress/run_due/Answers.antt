@@ -8,15 +8,15 @@ use Rattle.parts.specs.Shown.{queued}
 use Rattle.parts.specs.Wired.{WiredFor}
 use Rattle.ecode.specs.Accepted.{Bounded, Aimed}
 use Rattle.runner.specs.Standing.{program_of, standing}
-use Rattle.runner.specs.Turns.{Room, OnlyTouch}
-use Rattle.runner.proofs.Turns.{size_is, queue_long, requeued, touch_only}
+use Rattle.runner.specs.Turns.{OnlyTouch}
+use Rattle.runner.proofs.Turns.{size_is, requeued, touch_only}
 use Rattle.runner.proofs.Threads.{Left, drawn, room_here, goes_on, comes_back, threads_none, threads_stopped, whole_from, recount, Stepped, queue_stepped, moved}
 use Rattle.runner.proofs.progress.Progress.run_due.Goals as goal
 
 pub due-init : goal.due-init
 due-init g c =
     let q = c.args.self.now.queue in
-    (refl, c.requires.going, c.requires.inside, omega (arith, due_few (queued q), queue_long q), record { turns = length (queued q); log = []; enough = due_few (queued q); count = refl; same = refl })
+    (refl, c.requires.going, c.requires.inside, omega (arith, due_few (queued q), q.few), record { turns = length (queued q); log = []; enough = due_few (queued q); count = refl; same = refl })
 
 pub loop-next-init : goal.loop-next-init
 loop-next-init g c =
@@ -43,9 +43,8 @@ step-requires g c =
       wired = subst (λ (x : Meaning). WiredFor x.sheet w) (sym same) c.requires.wired;
       bounds = subst (λ (x : Meaning). Bounded x.sheet p.entry p.lines) (sym same) c.requires.bounds;
       within = inv.2;
-      room = subst (λ n. Room n (instruction_at p c.loop-next.at)) (queue_long c.loop-next.self.queue)
-          (room_here m p v₀ v₁ v c.loop-next.at c.in-Some.first c.due.count (c.loop-next.count - c.due.count) whole left due.1 c.in-Some.ensures (λ k. refl) inv.7
-          (omega (arith, inv.2, size_is w c.args.program.now)) c.requires.room);
+      room = room_here m p v₀ v₁ v c.loop-next.at c.in-Some.first c.due.count (c.loop-next.count - c.due.count) whole left due.1 c.in-Some.ensures (λ k. refl) inv.7
+          (omega (arith, inv.2, size_is w c.args.program.now)) c.requires.room;
     }
 
 pub loop-next-preserved : goal.loop-next-preserved

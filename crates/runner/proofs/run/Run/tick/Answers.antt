@@ -14,8 +14,8 @@ use Rattle.runner.proofs.Ticks.{sensors_long, refused, refuses, chargeable}
 use Rattle.runner.proofs.Phases.{over_state, over_answer, over_asked, still_going, still_below, no_stop, queue_inside, whole_is, room, stop_state, stop_answer, stop_asked, ran_state, ran_answer_is, ran_asked}
 use Rattle.runner.proofs.run.Run.tick.Goals as goal
 
-pub returns-then-given-self : goal.returns-then-given-self
-returns-then-given-self g c =
+pub returns-then-given-len : goal.returns-then-given-len
+returns-then-given-len g c =
     let M = g.H.Host.meaning in
     let ports = g.H.Host.ports in
     let mark = g.P.Policy.mark in
@@ -28,7 +28,7 @@ returns-then-given-self g c =
     let m = M r.bench.host in
     let p = loaded r.bench in
     let s = shown ports r in
-    let off : counts m rd ≡ false = ne_eqb (length rd) (sensor_count (kinds_of m.sheet)) (λ e. c.if-given-self.true (e ∙ sym (sensors_long m.sheet w c.requires.bench.wired))) in
+    let off : counts m rd ≡ false = ne_eqb (length rd) (sensor_count (kinds_of m.sheet)) (λ e. c.if-given-len.true (e ∙ sym (sensors_long m.sheet w c.requires.bench.wired) ∙ sym c.len.ensures.value)) in
     record {
       answer = sym (refuses m p rd s none off (leaves m p (Tick rd None) s));
       follows = follows M ports mark law r c.requires (Tick rd None) r refl refl refl refl (sym (ap bare (refused m p rd s none off None))) (λ k e. absurd (both_ways (counts m rd) off k));
@@ -60,7 +60,7 @@ returns-in-Some-charge g c =
     let rd = c.args.readings.now in
     let v = ports r.bench.host in
     let none = c.in_default.is in
-    let all = c.if-given-self.false in
+    let all = c.if-given-len.false ∙ c.len.ensures.value in
     let t = c.in-Some-charge.task in
     let g₀ = c.charge.new.self in
     let es = c.in-Some-charge.ensures in
@@ -84,7 +84,7 @@ open-requires g c =
     let rd = c.args.readings.now in
     let v = ports r.bench.host in
     let none = c.in_default.is in
-    let all = c.if-given-self.false in
+    let all = c.if-given-len.false ∙ c.len.ensures.value in
     let g₀ = c.charge.new.self in
     let es = c.in_default-charge.ensures in
     let said = es.answer w.ports in
@@ -92,7 +92,6 @@ open-requires g c =
     record {
       wired = c.requires.bench.wired;
       going = still_going M ports mark law r c.requires rd none all g₀ said left;
-      enough = all;
       below = still_below M ports mark law r c.requires rd none all g₀ said left;
     }
 
@@ -107,7 +106,7 @@ run_due-instructions-requires g c =
     let rd = c.args.readings.now in
     let v = ports r.bench.host in
     let none = c.in_default.is in
-    let all = c.if-given-self.false in
+    let all = c.if-given-len.false ∙ c.len.ensures.value in
     let g₀ = c.charge.new.self in
     let es = c.in_default-charge.ensures in
     let said = es.answer w.ports in
@@ -136,7 +135,7 @@ returns-in-Some-stop g c =
     let rd = c.args.readings.now in
     let v = ports r.bench.host in
     let none = c.in_default.is in
-    let all = c.if-given-self.false in
+    let all = c.if-given-len.false ∙ c.len.ensures.value in
     let g₀ = c.charge.new.self in
     let es = c.in_default-charge.ensures in
     let said = es.answer w.ports in
@@ -175,7 +174,7 @@ returns g c =
     let rd = c.args.readings.now in
     let v = ports r.bench.host in
     let none = c.in_default.is in
-    let all = c.if-given-self.false in
+    let all = c.if-given-len.false ∙ c.len.ensures.value in
     let g₀ = c.charge.new.self in
     let es = c.in_default-charge.ensures in
     let said = es.answer w.ports in
@@ -193,12 +192,12 @@ returns g c =
     let o = c.choose-running.result in
     let n = c.run_due-instructions.result in
     let going = c.in_default-stop.is in
-    let list = c.list-pending.result in
+    let list = c.deref.result.now in
     record {
       answer = ran_answer_is M ports mark law r c.requires rd none all g₀ said left h₁ g₁ same opens h₂ g₂ n came counted o going;
       follows = follows M ports mark law r c.requires (Tick rd o) _ kept refl refl c.choose-running.ensures.same_mark
           (ran_state M ports mark law r c.requires rd none all g₀ said left h₁ g₁ same opens h₂ g₂ n came counted o going)
-          (ran_asked M ports mark law r c.requires rd none all g₀ said left h₁ g₁ same opens h₂ g₂ n came counted o going list (c.list-pending.ensures w.ports) c.choose-running.ensures.choice);
+          (ran_asked M ports mark law r c.requires rd none all g₀ said left h₁ g₁ same opens h₂ g₂ n came counted o going list (c.deref.ensures.0 ∙ c.list-pending.ensures w.ports) c.choose-running.ensures.choice);
       untouched = tt;
       unasked = tt;
     }
