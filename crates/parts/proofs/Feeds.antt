@@ -1,5 +1,6 @@
 -- The readings put port by port, and the sensor ports found port by port.
 use Rattle.std.proofs.Common.{◌≡◌, ℕ, suc, ◌+◌, ◌-◌, ◌<◌, ◌≤◌, Bool, cond, ◌⊎◌, inl, inr, List, [], ◌∷◌, ◌++◌, length, take, set, ℤ, sym, refl, ap, ◌∙◌, append_assoc, arith, length-append}
+use Rattle.std.proofs.Math.Seq.{set-append_seam}
 use denote.Enum.Bare.{sameb}
 use Rattle.ecode.specs.contracts.port.PortKind.{the_type}
 use Rattle.ecode.specs.declared.port.PortKind.{PortKind}
@@ -42,10 +43,6 @@ put_none (p ∷ ps) [] v e = refl
 put_none (p ∷ ps) (y ∷ r) v (inl e) = absurd (omega arith)
 put_none (p ∷ ps) (y ∷ r) v (inr e) = absurd (omega arith)
 
-set_seam : (u : Ports) (x y : ℤ) (v : Ports) → set (u ++ (x ∷ v)) (length u) y ≡ u ++ (y ∷ v)
-set_seam [] x y v = refl
-set_seam (z ∷ u) x y v = ap (λ l. z ∷ l) (set_seam u x y v)
-
 -- a port that is no sensor is passed over
 passed : (u : Ports) (x : ℤ) (v : Ports) (ks : List PortKind) (r : List ℤ)
     → put_each (sensors_from (length (u ++ (x ∷ []))) ks) r ((u ++ (x ∷ [])) ++ v) ≡ (u ++ (x ∷ [])) ++ put_readings ks v r
@@ -62,7 +59,7 @@ put_from u [] (k ∷ ks) r l = absurd (omega arith)
 put_from u (x ∷ v) (Sensor ∷ ks) [] l = refl
 put_from u (x ∷ v) (Sensor ∷ ks) (y ∷ r) l =
     let n : length u + 1 ≡ length (u ++ (y ∷ [])) = omega (arith, length-append u (y ∷ [])) in
-    ap (put_each (sensors_from (length u + 1) ks) r) (set_seam u x y v ∙ sym (append_assoc u (y ∷ []) v)) ∙ ap (λ q. put_each (sensors_from q ks) r ((u ++ (y ∷ [])) ++ v)) n
+    ap (put_each (sensors_from (length u + 1) ks) r) (set-append_seam u x v y ∙ sym (append_assoc u (y ∷ []) v)) ∙ ap (λ q. put_each (sensors_from q ks) r ((u ++ (y ∷ [])) ++ v)) n
     ∙ put_from (u ++ (y ∷ [])) v ks r (omega arith) ∙ append_assoc u (y ∷ []) (put_readings ks v r)
 put_from u (x ∷ v) (Driver ∷ ks) r l = passed u x v ks r (put_from (u ++ (x ∷ [])) v ks r (omega arith))
 put_from u (x ∷ v) (Task ∷ ks) r l = passed u x v ks r (put_from (u ++ (x ∷ [])) v ks r (omega arith))

@@ -1,7 +1,7 @@
 -- Task by task, those that are pending.
-use Rattle.std.proofs.Common.{true, false, sym, ◌∙◌, append-nil, arith}
+use Rattle.std.proofs.Common.{true, false, append-nil, arith}
+use Rattle.std.proofs.lemmas.List.{drop_more}
 use Rattle.parts.specs.Shown.{no_slot}
-use Rattle.parts.proofs.Maps.{at_front}
 use Rattle.parts.proofs.Tables.{one_more}
 use Rattle.parts.proofs.data.TaskTable.list.Goals as goal
 
@@ -10,7 +10,7 @@ loop-task-preserved-then-is_pending c =
     let f = c.args.self.now in
     let old = c.loop-task.task-iterator in
     let steps = c.in-Some.ensures.steps in
-    let at = at_front f.slots old.a.start c.in-Some.slot.now no_slot c.next.new.self.b.rest.now (sym c.loop-task.invariant.5 ∙ steps.1) in (
+    let at = drop_more f.slots old.a.start no_slot (omega arith) in (
       (tt, tt),
       tt,
       omega (arith, c.push.ensures.len),
@@ -25,7 +25,7 @@ loop-task-preserved c =
     let f = c.args.self.now in
     let old = c.loop-task.task-iterator in
     let steps = c.in-Some.ensures.steps in
-    let at = at_front f.slots old.a.start c.in-Some.slot.now no_slot c.next.new.self.b.rest.now (sym c.loop-task.invariant.5 ∙ steps.1) in (
+    let at = drop_more f.slots old.a.start no_slot (omega arith) in (
       (tt, tt),
       tt,
       omega arith,
