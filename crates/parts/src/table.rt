@@ -80,6 +80,7 @@ impl TaskTable {
     }
 
     // Task t is pending from now on, with the ports of the host as they are.
+    // Their number comes beside the host, since a question for the host's sheet would copy all of it.
     pub fn release<H: Host>(&mut self, t: u8, window: u8, host: &H, ports: u8)
         requires low { t < 8 }
         requires ports { ports ≡ (H.Host.meaning host.now).sheet.ports }
@@ -96,13 +97,9 @@ impl TaskTable {
         ensures answer { (ports : ℕ) → result ≡ exhausted (λ t. slice_index budgets.now t) (charged (jobs ports self.old) running) running }
     {
         let task = running?;
-        let t = task as usize;
-        self.slots[t].used += 1;
-        if budgets[t] <= self.slots[t].used {
-            Some(task)
-        } else {
-            None
-        }
+        let slot = &mut self.slots[task as usize];
+        slot.used += 1;
+        (budgets[task as usize] <= slot.used).then_some(task)
     }
 
     // Task t is no longer pending.
