@@ -21,6 +21,8 @@ use Rattle.machine.specs.declared.answer.Answer.TheVariants.{Ran, Ended, Stopped
 use Rattle.machine.specs.declared.fault.RunFault.{RunFault}
 use Rattle.machine.specs.declared.fault.RunFault.TheVariants.{Readings, NotRunning, BudgetUsedUp, Touched, AfterStop, NoPort}
 use Rattle.machine.specs.declared.stop.Stop.{Stop}
+use Rattle.machine.specs.declared.stop.Stop.TheVariants as stop
+use Rattle.machine.specs.Refusals.{stop_task}
 use Rattle.machine.specs.State.{Ports, Table, Event, State}
 use Rattle.machine.specs.Runner.{kinds_of, tick, done}
 use Rattle.machine.specs.Choices.{pending_tasks}
@@ -66,7 +68,8 @@ leaves m p (AskPort x) s = s
 
 -- the refusal of a tick that stopped
 abbrev pub fault_of : Stop → RunFault
-fault_of x = cond (x.number == 14) (BudgetUsedUp x.task) (Touched x.task)
+fault_of (stop.BudgetUsedUp task) = BudgetUsedUp task
+fault_of (stop.Touched task address) = Touched task
 
 -- a tick that stopped answers its stop, another the number of instructions that it ran and the running task
 abbrev pub ran_or_stopped : Option Stop → ℕ → Option ℕ → Result Ticked RunFault
@@ -76,7 +79,7 @@ ran_or_stopped (Some x) n running = Err (fault_of x)
 -- tick and done after a stop: 16, with the stop's task
 abbrev pub unless_over : {A : Type 0} → Option Stop → Result A RunFault → Result A RunFault
 unless_over None answer = answer
-unless_over (Some x) answer = Err (AfterStop x.task)
+unless_over (Some x) answer = Err (AfterStop (stop_task x))
 
 -- the answer of a tick that goes from s to s'
 abbrev pub tick_answer : Meaning → List ℤ → State → State → Result Ticked RunFault

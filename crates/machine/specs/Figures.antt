@@ -14,6 +14,7 @@ use Rattle.policy.specs.Policies.{EarliestLowest, LowestFirst}
 use Rattle.machine.specs.declared.answer.Answer.{Answer}
 use Rattle.machine.specs.declared.answer.Answer.TheVariants.{Ran, Ended, StoppedBy, Refused}
 use Rattle.machine.specs.declared.fault.RunFault.TheVariants.{Touched}
+use Rattle.machine.specs.declared.stop.Stop.TheVariants as stop
 use Rattle.machine.specs.Refusals.{run_refusal}
 use Rattle.machine.specs.State.{State, fresh}
 use Rattle.machine.specs.Calls.{RunCall, Tick, Done, AskState, after, answers, AsChosen}
@@ -63,7 +64,7 @@ pub record RunFigures : Type 0 where
   pub lowest_chooses : AsChosen LowestFirst pitch_meaning two_rate_program eleven_ticks pitch_start
   pub tick_ten : answers pitch_meaning two_rate_program eleven_ticks pitch_start
       ≡ ran 7 (Some 0) ∷ (replicate 9 (ran 0 (Some 0))
-      ++ (Refused (Touched 1) ∷ StoppedBy (Some (record { number = 15; task = 1; address = 7 })) ∷ []))
+      ++ (Refused (Touched 1) ∷ StoppedBy (Some (stop.Touched 1 7)) ∷ []))
   pub number_of_it : run_refusal (Touched 1) ≡ record { number = 15; place = 1 }
   -- the worked run: its choices are the earliest policy's; what its calls answer, and the ports that it leaves
   pub worked_chooses : AsChosen EarliestLowest pitch_meaning two_rate_program worked_run pitch_start

@@ -6,11 +6,12 @@ use Rattle.ecode.specs.Verdict.{Contents}
 use Rattle.host.specs.Meaning.{Meaning, Lawful}
 use Rattle.policy.specs.Choice.{Choice}
 use Rattle.machine.specs.declared.stop.Stop.{Stop}
-use Rattle.machine.specs.declared.fault.RunFault.TheVariants.{BudgetUsedUp, Touched}
+use Rattle.machine.specs.declared.stop.Stop.TheVariants as stop
+use Rattle.machine.specs.declared.fault.RunFault.TheVariants.{BudgetUsedUp}
 use Rattle.machine.specs.State.{Ports, Table, State, bare, is_pending, budget}
 use Rattle.machine.specs.Runner.{charged, exhausted, one_less_wait, kinds_of, opening, closing, threads}
 use Rattle.machine.specs.Choices.{pending_tasks}
-use Rattle.machine.specs.Calls.{Tick, counts, sensor_count, leaves, ran_or_stopped, tick_answer, Asked}
+use Rattle.machine.specs.Calls.{Tick, counts, sensor_count, leaves, fault_of, ran_or_stopped, tick_answer, Asked}
 use Rattle.machine.proofs.Reached.{Steady}
 use Rattle.parts.specs.declared.data.PendingList.{PendingList}
 use Rattle.parts.specs.declared.data.Wiring.{Wiring}
@@ -18,11 +19,11 @@ use Rattle.parts.specs.Shown.{queued, jobs}
 use Rattle.runner.specs.declared.progress.Progress.{Progress}
 use Rattle.runner.specs.declared.run.Run.{Run}
 use Rattle.runner.specs.Standing.{standing, after_charge}
-use Rattle.runner.specs.Turns.{OnlyTouch, Inside, Roomy}
+use Rattle.runner.specs.Turns.{Inside, Roomy}
 use Rattle.runner.specs.Sound.{loaded, shown, SoundRun}
 use Rattle.runner.proofs.Sounds.{steady_run}
 use Rattle.runner.proofs.Turns.{size_is}
-use Rattle.runner.proofs.Ticks.{sensors_long, ticks, answers, used_up, goes, exhausted_same, charged_pending, none_beyond, inside_fallen, closed_stopped, closed_going, touched_answer, ran_answer}
+use Rattle.runner.proofs.Ticks.{sensors_long, ticks, answers, used_up, goes, exhausted_same, charged_pending, none_beyond, inside_fallen, closed_stopped, closed_going, stopped_answer, ran_answer}
 
 module _ {H P : Type 0} (meaning : H → Meaning) (ports : H → Ports) (mark : P → Bool) (lawful : (h : H) → Lawful (meaning h))
     (r : Run H P) (sound : SoundRun meaning ports mark r) (rd : List ℤ) (none : r.progress.stop ≡ None) (enough : length rd ≡ r.bench.wiring.sensors.len) where
@@ -69,7 +70,7 @@ module _ {H P : Type 0} (meaning : H → Meaning) (ports : H → Ports) (mark : 
     over_answer = sym (answers m p rd s none takes (leaves m p (Tick rd None) s) ∙ ap (λ (x : State). ran_or_stopped x.stop (length x.log) x.running) is_over)
 
     pub over_asked : Asked (Choice (mark r.policy)) m (Tick rd None) (leaves m p (Tick rd None) s)
-    over_asked k e = absurd (let z : Some (record { number = 14; task = t; address = 0 }) ≡ None = sym (ap (λ (x : State). x.stop) is_over) ∙ e in let y : ◌≡◌ {A = ℕ} 0 1 = cc in omega arith)
+    over_asked k e = absurd (let z : Some (stop.BudgetUsedUp t) ≡ None = sym (ap (λ (x : State). x.stop) is_over) ∙ e in let y : ◌≡◌ {A = ℕ} 0 1 = cc in omega arith)
 
   -- none is: g is what the charge left
   module _ (g : Progress) (said : None ≡ exhausted (λ t. get_or r.bench.program.budgets t 0) slots s.running) (left : standing w v [] g ≡ after_charge None s) where
@@ -114,7 +115,7 @@ module _ {H P : Type 0} (meaning : H → Meaning) (ports : H → Ports) (mark : 
       -- the due loop has ended: h₂ and g₂ are what is left then
       module _ (h₂ : H) (g₂ : Progress) (n : ℕ) (came : standing w (ports h₂) whole.log g₂ ≡ whole) (counted : n ≡ length whole.log) where
         -- it stopped
-        module _ (x : Stop) (stopped : g₂.stop ≡ Some x) (touch : OnlyTouch g₂.stop) where
+        module _ (x : Stop) (stopped : g₂.stop ≡ Some x) where
           whole_stop : whole.stop ≡ Some x
           whole_stop = ap (λ (y : State). y.stop) (sym came) ∙ stopped
 
@@ -124,9 +125,9 @@ module _ {H P : Type 0} (meaning : H → Meaning) (ports : H → Ports) (mark : 
           pub stop_state : standing w (ports h₂) [] g₂ ≡ bare (leaves m p (Tick rd None) s)
           stop_state = ap bare came ∙ sym (ap bare stays)
 
-          pub stop_answer : Err (Touched x.task) ≡ tick_answer m rd s (leaves m p (Tick rd None) s)
+          pub stop_answer : Err (fault_of x) ≡ tick_answer m rd s (leaves m p (Tick rd None) s)
           stop_answer =
-              touched_answer whole.stop x (length whole.log) whole.running whole_stop (subst OnlyTouch (ap (λ (y : State). y.stop) came) touch)
+              stopped_answer whole.stop x (length whole.log) whole.running whole_stop
               ∙ sym (answers m p rd s none takes (leaves m p (Tick rd None) s) ∙ ap (λ (y : State). ran_or_stopped y.stop (length y.log) y.running) stays)
 
           pub stop_asked : Asked (Choice (mark r.policy)) m (Tick rd None) (leaves m p (Tick rd None) s)

@@ -23,6 +23,7 @@ use Rattle.runner.specs.declared.progress.Progress.{Progress}
 use Rattle.parts.specs.declared.data.Queue.{Queue}
 use Rattle.parts.specs.Shown.{queued}
 use Rattle.machine.specs.declared.stop.Stop.{Stop}
+use Rattle.machine.specs.declared.stop.Stop.TheVariants.{Touched}
 
 -- as many lines as the listing counts
 pub size_is : (w : Wiring) (p : Program) → size (program_of w p) ≡ p.listing.count
@@ -59,7 +60,7 @@ module _ (m : Meaning) (w : Wiring) (p : Program) (a : ℕ) (i : Instruction) (a
 
     -- it touches a pending task
     pub touches : (t : ℕ) → Some t ≡ touched m.sheet s.pending i
-        → ((l : List Event) → v l ≡ record { ports = s.ports; queue = s.queue; pending = s.pending; running = s.running; stop = Some (record { number = 15; task = t; address = a }); log = l })
+        → ((l : List Event) → v l ≡ record { ports = s.ports; queue = s.queue; pending = s.pending; running = s.running; stop = Some (Touched t a); log = l })
         → Leads None
     touches t f g =
         subst (λ k. By k (touched m.sheet s.pending k) None) (sym at)

@@ -23,11 +23,7 @@ impl Progress {
         let running = self.running;
         let used_up = self.table.charge(running, budgets);
         if let Some(task) = used_up {
-            self.stop = Some(Stop {
-                number: 14,
-                task,
-                address: 0,
-            });
+            self.stop = Some(Stop::BudgetUsedUp { task });
         }
         used_up
     }

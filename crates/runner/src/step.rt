@@ -14,17 +14,6 @@ use host::host::Host;
 use machine::stop::Stop;
 use parts::data::Wiring;
 
-// The stop at an instruction that would touch a pending task.
-fn touch(task: u8, address: u16) -> Stop
-    ensures { result ≡ record { number = 15; task = task; address = address } }
-{
-    Stop {
-        number: 15,
-        task,
-        address,
-    }
-}
-
 impl Progress {
     // One instruction.
     fn step<H: Host>(&mut self, host: &mut H, program: &Program, wiring: &Wiring, at: u16) -> Flow
@@ -43,7 +32,7 @@ impl Progress {
                 let shared = wiring.sharing[driver as usize];
                 match self.table.touched(shared) {
                     Some(task) => {
-                        self.stop = Some(touch(task, at));
+                        self.stop = Some(Stop::Touched { task, address: at });
                         Flow::Stopped
                     }
                     None => {
@@ -54,7 +43,7 @@ impl Progress {
             }
             Instruction::Release { task, window } => {
                 if self.table.is_pending(task) {
-                    self.stop = Some(touch(task, at));
+                    self.stop = Some(Stop::Touched { task, address: at });
                     Flow::Stopped
                 } else {
                     self.table.release(task, window, host, wiring.ports);

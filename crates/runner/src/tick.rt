@@ -22,7 +22,7 @@ impl<H: Host, P: Policy> Run<H, P> {
         ensures unasked { Unasked self.old.policy self.new.policy result }
     {
         if let Some(stop) = self.progress.stop {
-            return Err(RunFault::AfterStop { task: stop.task });
+            return Err(RunFault::AfterStop { task: stop.task() });
         }
         let given = readings.len();
         if given != self.bench.wiring.sensors.len {
@@ -39,7 +39,7 @@ impl<H: Host, P: Policy> Run<H, P> {
             &self.bench.wiring,
         );
         if let Some(stop) = self.progress.stop {
-            return Err(RunFault::Touched { task: stop.task });
+            return Err(RunFault::from(stop));
         }
         let pending = self.progress.table.list(self.bench.wiring.tasks);
         let running = self.policy.choose(&pending.items[0..pending.len]);
@@ -59,7 +59,7 @@ impl<H: Host, P: Policy> Run<H, P> {
         ensures policy { self.new.policy ≡ self.old.policy }
     {
         if let Some(stop) = self.progress.stop {
-            return Err(RunFault::AfterStop { task: stop.task });
+            return Err(RunFault::AfterStop { task: stop.task() });
         }
         match self.progress.running {
             Some(running) if running == task => {}

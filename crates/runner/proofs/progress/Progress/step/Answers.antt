@@ -2,7 +2,7 @@
 use Rattle.std.proofs.Common.{◌≡◌, ◌+◌, cond, List, Some, None, refl, ap, ◌∙◌, arith}
 use Rattle.ecode.specs.declared.code.Instruction.TheVariants.{Call, Release, Future, If, Jump, Return}
 use Rattle.machine.specs.State.{Event, State, is_pending}
-use Rattle.machine.specs.declared.stop.Stop.{Stop}
+use Rattle.machine.specs.declared.stop.Stop.TheVariants.{Touched}
 use Rattle.parts.specs.Shown.{jobs}
 use Rattle.runner.specs.Standing.{standing}
 use Rattle.runner.proofs.Turns.{reads, ranged, aimed, touches, passes, call_touches, room_at}
@@ -65,9 +65,9 @@ returns-in-Some g c =
     let who = c.in-Some.ensures w.ports ∙ call_touches m.sheet w c.requires.wired (g.met.H.Host.lawful host).rules.few_tasks c.in-Call.driver (ranged m w p a i is c.requires.bounds c.requires.within) (jobs w.ports c.args.self.now.table) in
     record {
       turn = λ l. touches m w p a i is (s l) _ c.in-Some.task who
-          (λ k x. record { ports = (s l).ports; queue = (s l).queue; pending = (s l).pending; running = (s l).running; stop = Some (c.touch.ensures x); log = k });
+          (λ k x. record { ports = (s l).ports; queue = (s l).queue; pending = (s l).pending; running = (s l).running; stop = Some (Touched c.in-Some.task a); log = k });
       same = refl;
-      told = ap (λ (x : Stop). x.number) c.touch.ensures;
+      told = refl;
       upward = tt;
     }
 
@@ -104,9 +104,9 @@ returns-then-is_pending g c =
     = ap (λ b. cond b (Some c.in-Release.task) None) (c.if-is_pending.ensures w.ports) in
     record {
       turn = λ l. touches m w p a i is (s l) _ c.in-Release.task who
-          (λ k x. record { ports = (s l).ports; queue = (s l).queue; pending = (s l).pending; running = (s l).running; stop = Some (c.touch-then-is_pending.ensures x); log = k });
+          (λ k x. record { ports = (s l).ports; queue = (s l).queue; pending = (s l).pending; running = (s l).running; stop = Some (Touched c.in-Release.task a); log = k });
       same = refl;
-      told = ap (λ (x : Stop). x.number) c.touch-then-is_pending.ensures;
+      told = refl;
       upward = tt;
     }
 

@@ -1,5 +1,5 @@
 -- Phase by phase.
-use Rattle.std.proofs.Common.{◌≡◌, false, [], length, None, sym, refl, ap, ◌∙◌, subst}
+use Rattle.std.proofs.Common.{◌≡◌, false, [], length, None, Err, sym, refl, ap, ◌∙◌, subst}
 use Rattle.std.proofs.lemmas.Bool.{ne_eqb, both_ways}
 use Rattle.ecode.specs.Accepted.{Bounded}
 use Rattle.host.specs.Meaning.{Meaning}
@@ -10,7 +10,7 @@ use Rattle.parts.specs.Wired.{WiredFor}
 use Rattle.runner.specs.Standing.{standing}
 use Rattle.runner.specs.Sound.{loaded, shown}
 use Rattle.runner.proofs.Sounds.{steady_run, follows}
-use Rattle.runner.proofs.Ticks.{sensors_long, refused, refuses, chargeable}
+use Rattle.runner.proofs.Ticks.{sensors_long, refused, refuses, chargeable, stop_leaves}
 use Rattle.runner.proofs.Phases.{over_state, over_answer, over_asked, still_going, still_below, no_stop, queue_inside, whole_is, room, stop_state, stop_answer, stop_asked, ran_state, ran_answer_is, ran_asked}
 use Rattle.runner.proofs.run.Run.tick.Goals as goal
 
@@ -154,13 +154,12 @@ returns-in-Some-stop g c =
     let x = c.in-Some-stop.stop in
     let n = c.run_due-instructions.result in
     let stopped = c.in-Some-stop.is in
-    let touch = c.run_due-instructions.ensures.touch in
     record {
-      answer = stop_answer M ports mark law r c.requires rd none all g₀ said left h₁ g₁ same opens h₂ g₂ n came counted x stopped touch;
+      answer = ap Err c.from.ensures ∙ stop_answer M ports mark law r c.requires rd none all g₀ said left h₁ g₁ same opens h₂ g₂ n came counted x stopped;
       follows = follows M ports mark law r c.requires (Tick rd None) _ kept refl refl refl
-          (stop_state M ports mark law r c.requires rd none all g₀ said left h₁ g₁ same opens h₂ g₂ n came counted x stopped touch)
-          (stop_asked M ports mark law r c.requires rd none all g₀ said left h₁ g₁ same opens h₂ g₂ n came counted x stopped touch);
-      untouched = tt;
+          (stop_state M ports mark law r c.requires rd none all g₀ said left h₁ g₁ same opens h₂ g₂ n came counted x stopped)
+          (stop_asked M ports mark law r c.requires rd none all g₀ said left h₁ g₁ same opens h₂ g₂ n came counted x stopped);
+      untouched = stop_leaves _ _ x c.from.result c.from.ensures;
       unasked = refl;
     }
 
