@@ -17,7 +17,7 @@ use Rattle.policy.specs.declared.pending.PendingTask.{PendingTask}
 use Rattle.policy.specs.Choice.{Choice}
 use Rattle.machine.specs.declared.answer.Ticked.{Ticked}
 use Rattle.machine.specs.declared.answer.Answer.{Answer}
-use Rattle.machine.specs.declared.answer.Answer.TheVariants.{Ran, Ended, StoppedBy, Value, Refused}
+use Rattle.machine.specs.declared.answer.Answer.TheVariants.{Ran, Ended, StoppedBy, Value}
 use Rattle.machine.specs.declared.fault.RunFault.{RunFault}
 use Rattle.machine.specs.declared.fault.RunFault.TheVariants.{Readings, NotRunning, BudgetUsedUp, Touched, AfterStop, NoPort}
 use Rattle.machine.specs.declared.stop.Stop.{Stop}
@@ -99,16 +99,16 @@ state_answer s = s.stop
 abbrev pub port_answer : Meaning → ℕ → State → Result ℤ RunFault
 port_answer m x s = cond (nat_lt x m.sheet.ports) (Ok (reading s.ports x)) (Err (NoPort x))
 
--- a result as an answer
-abbrev pub answered : {A : Type 0} → (A → Answer) → Result A RunFault → Answer
-answered kind (Ok x) = kind x
-answered kind (Err fault) = Refused fault
+-- the answer that a result makes, and a refusal as it is
+abbrev pub answered : {A : Type 0} → (A → Answer) → Result A RunFault → Result Answer RunFault
+answered kind (Ok x) = Ok (kind x)
+answered kind (Err fault) = Err fault
 
 -- the answer of a call made in the state s
-abbrev pub answer : Meaning → Contents → RunCall → State → Answer
+abbrev pub answer : Meaning → Contents → RunCall → State → Result Answer RunFault
 answer m p (Tick readings choice) s = answered Ran (tick_answer m readings s (leaves m p (Tick readings choice) s))
 answer m p (Done t) s = answered (λ _. Ended) (done_answer t s)
-answer m p AskState s = StoppedBy (state_answer s)
+answer m p AskState s = Ok (StoppedBy (state_answer s))
 answer m p (AskPort x) s = answered Value (port_answer m x s)
 
 -- one call after the other
@@ -117,7 +117,7 @@ after m p [] s = s
 after m p (c ∷ calls) s = after m p calls (leaves m p c s)
 
 -- the answer of each call, in the state that those before it leave
-abbrev pub answers : Meaning → Contents → List RunCall → State → List Answer
+abbrev pub answers : Meaning → Contents → List RunCall → State → List (Result Answer RunFault)
 answers m p [] s = []
 answers m p (c ∷ calls) s = answer m p c s ∷ answers m p calls (leaves m p c s)
 

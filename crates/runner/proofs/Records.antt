@@ -1,10 +1,11 @@
 -- Lists of calls, one call more at a time.
-use Rattle.std.proofs.Common.{◌≡◌, ℕ, zero, suc, ◌+◌, ◌<◌, ◌≤◌, Bool, ◌⊎◌, List, [], ◌∷◌, ◌++◌, length, get_or, take, drop, set, sym, refl, ap, ◌∙◌, subst, inl, inr, arith, drop-drop}
+use Rattle.std.proofs.Common.{◌≡◌, ℕ, zero, suc, ◌+◌, ◌<◌, ◌≤◌, Bool, ◌⊎◌, List, [], ◌∷◌, ◌++◌, length, get_or, take, drop, set, Result, sym, refl, ap, ◌∙◌, subst, inl, inr, arith, drop-drop}
 use Rattle.std.proofs.lemmas.List.{take_more, take_more_set}
 use Rattle.ecode.specs.Verdict.{Contents}
 use Rattle.host.specs.Meaning.{Meaning}
 use Rattle.policy.specs.Choice.{Choice}
 use Rattle.machine.specs.declared.answer.Answer.{Answer}
+use Rattle.machine.specs.declared.fault.RunFault.{RunFault}
 use Rattle.machine.specs.State.{Ports, bare}
 use Rattle.machine.specs.Calls.{leaves, answer, after, answers, Asked, ByPolicy}
 use Rattle.machine.proofs.Reached.{leaves_bare, answer_bare, after_more, answers_more, chosen_more}
@@ -20,14 +21,14 @@ use Rattle.runner.proofs.Sounds.{asked_same, same_program}
 abbrev pub no_call : Call
 no_call = Tick (record { ref_ptr = (0, 0); now = [] })
 
-record_push : (cs : List Call) (given : List Answer) (c : Call) (a : Answer) → length cs ≡ length given → record_of (cs ++ (c ∷ [])) (given ++ (a ∷ [])) ≡ record_of cs given ++ (told c a ∷ [])
+record_push : (cs : List Call) (given : List (Result Answer RunFault)) (c : Call) (a : Result Answer RunFault) → length cs ≡ length given → record_of (cs ++ (c ∷ [])) (given ++ (a ∷ [])) ≡ record_of cs given ++ (told c a ∷ [])
 record_push [] [] c a e = refl
 record_push [] (b ∷ given) c a e = absurd (omega arith)
 record_push (d ∷ cs) [] c a e = absurd (omega arith)
 record_push (d ∷ cs) (b ∷ given) c a e = ap (λ l. told d b ∷ l) (record_push cs given c a (omega arith))
 
 -- what is past the calls or past the answers is not in the record
-pub record_cut : (cs : List Call) (given : List Answer) (n : ℕ) → (length cs ≤ n) ⊎ (length given ≤ n) → record_of (take n cs) (take n given) ≡ record_of cs given
+pub record_cut : (cs : List Call) (given : List (Result Answer RunFault)) (n : ℕ) → (length cs ≤ n) ⊎ (length given ≤ n) → record_of (take n cs) (take n given) ≡ record_of cs given
 record_cut [] given zero h = refl
 record_cut [] given (suc n) h = refl
 record_cut (c ∷ cs) [] zero h = refl
@@ -38,7 +39,7 @@ record_cut (c ∷ cs) (a ∷ given) (suc n) (inl h) = ap (λ l. told c a ∷ l) 
 record_cut (c ∷ cs) (a ∷ given) (suc n) (inr h) = ap (λ l. told c a ∷ l) (record_cut cs given n (inr (omega arith)))
 
 -- the calls cs with the answers given took the run from r₀ to r
-pub record Playing {H P : Type 0} (meaning : H → Meaning) (ports : H → Ports) (mark : P → Bool) (cs : List Call) (given : List Answer) (r₀ r : Run H P) : Type 0 where
+pub record Playing {H P : Type 0} (meaning : H → Meaning) (ports : H → Ports) (mark : P → Bool) (cs : List Call) (given : List (Result Answer RunFault)) (r₀ r : Run H P) : Type 0 where
   pub answered : given ≡ answers (meaning r₀.bench.host) (loaded r₀.bench) (record_of cs given) (shown ports r₀)
   pub state : shown ports r ≡ bare (after (meaning r₀.bench.host) (loaded r₀.bench) (record_of cs given) (shown ports r₀))
   pub chosen : ByPolicy (mark r₀.policy) (meaning r₀.bench.host) (loaded r₀.bench) (record_of cs given) (shown ports r₀)
@@ -50,7 +51,7 @@ pub record Playing {H P : Type 0} (meaning : H → Meaning) (ports : H → Ports
 
 module _ {H P : Type 0} (meaning : H → Meaning) (ports : H → Ports) (mark : P → Bool) (r₀ r r' : Run H P) where
   -- one call more
-  playing_push : (cs : List Call) (given : List Answer) (c : Call) (a : Answer) → length cs ≡ length given → Playing meaning ports mark cs given r₀ r
+  playing_push : (cs : List Call) (given : List (Result Answer RunFault)) (c : Call) (a : Result Answer RunFault) → length cs ≡ length given → Playing meaning ports mark cs given r₀ r
       → a ≡ answer (meaning r.bench.host) (loaded r.bench) (told c a) (shown ports r) → Follows meaning ports mark (told c a) r r'
       → Playing meaning ports mark (cs ++ (c ∷ [])) (given ++ (a ∷ [])) r₀ r'
   playing_push cs given c a e k said f =
@@ -82,7 +83,7 @@ module _ {H P : Type 0} (meaning : H → Meaning) (ports : H → Ports) (mark : 
       }
 
   -- the call at i, with its answer put into its place
-  pub playing_more : (cs : List Call) (given : List Answer) (i : ℕ) (a : Answer) → i < length cs → i < length given → Playing meaning ports mark (take i cs) (take i given) r₀ r
+  pub playing_more : (cs : List Call) (given : List (Result Answer RunFault)) (i : ℕ) (a : Result Answer RunFault) → i < length cs → i < length given → Playing meaning ports mark (take i cs) (take i given) r₀ r
       → a ≡ answer (meaning r.bench.host) (loaded r.bench) (told (get_or cs i no_call) a) (shown ports r) → Follows meaning ports mark (told (get_or cs i no_call) a) r r'
       → Playing meaning ports mark (take (i + 1) cs) (take (i + 1) (set given i a)) r₀ r'
   playing_more cs given i a h₁ h₂ k said f =
