@@ -35,8 +35,9 @@ impl<H: Host, P: Policy> Run<H, P> {
         ensures { PlaysOn H.Host.meaning H.Host.ports P.Policy.mark calls.now answers.old answers.new self.old self.new }
     {
         let n = calls.len().min(answers.len());
-        for i in 0..n {
-            answers[i] = self.make(&calls[i]);
+        // By index: of what is written through a `zip` with `iter_mut` a proof knows the length alone.
+        for (i, call) in calls[..n].iter().enumerate() {
+            answers[i] = self.make(call);
         }
     }
 }

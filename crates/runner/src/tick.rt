@@ -61,9 +61,8 @@ impl<H: Host, P: Policy> Run<H, P> {
         if let Some(stop) = self.progress.stop {
             return Err(RunFault::AfterStop { task: stop.task() });
         }
-        match self.progress.running {
-            Some(running) if running == task => {}
-            _ => return Err(RunFault::NotRunning { task }),
+        if self.progress.running != Some(task) {
+            return Err(RunFault::NotRunning { task });
         }
         self.bench.host.work(task);
         self.progress.table.clear(task);
