@@ -60,10 +60,10 @@ module _ {H P : Type 0} (meaning : H → Meaning) (ports : H → Ports) (mark : 
   same_pending = moved (λ y q s. (shown ports r').pending ≡ (after y q made s).pending) (ap (λ (s : State). s.pending) plays.state)
 
   same_host : meaning r'.bench.host ≡ m
-  same_host = plays.host ∙ ap (λ (y : Bench H). meaning y.host) of_bench
+  same_host = plays.bench.host ∙ ap (λ (y : Bench H). meaning y.host) of_bench
 
   same_loaded : loaded r'.bench ≡ p
-  same_loaded = same_program meaning r.bench r'.bench plays.program plays.wiring ∙ ap loaded of_bench
+  same_loaded = same_program meaning r.bench r'.bench plays.bench ∙ ap loaded of_bench
 
   given_back : (m' : Meaning) (v' : Ports) (p' : Contents) (bytes : List ℕ) → GivenBack (meaning r'.bench.host) (loaded r'.bench) (shown ports r') m' v' p' bytes
       → GivenBack m p (after m p made (fresh p v)) m' v' p' bytes

@@ -12,10 +12,10 @@ use Rattle.machine.proofs.Reached.{leaves_bare, answer_bare, after_more, answers
 use Rattle.runner.specs.declared.call.Call.{Call}
 use Rattle.runner.specs.declared.call.Call.TheVariants.{Tick}
 use Rattle.runner.specs.declared.run.Run.{Run}
-use Rattle.runner.specs.Sound.{loaded, shown, SoundRun}
+use Rattle.runner.specs.Sound.{loaded, shown, SameBench, SoundRun}
 use Rattle.runner.specs.Follows.{Follows}
 use Rattle.runner.specs.Record.{told, record_of}
-use Rattle.runner.proofs.Sounds.{asked_same, same_program}
+use Rattle.runner.proofs.Sounds.{asked_same, both_same, same_program}
 
 -- what stands past the end of a list of calls
 abbrev pub no_call : Call
@@ -43,9 +43,7 @@ pub record Playing {H P : Type 0} (meaning : H → Meaning) (ports : H → Ports
   pub answered : given ≡ answers (meaning r₀.bench.host) (loaded r₀.bench) (record_of cs given) (shown ports r₀)
   pub state : shown ports r ≡ bare (after (meaning r₀.bench.host) (loaded r₀.bench) (record_of cs given) (shown ports r₀))
   pub chosen : ByPolicy (mark r₀.policy) (meaning r₀.bench.host) (loaded r₀.bench) (record_of cs given) (shown ports r₀)
-  pub host : meaning r.bench.host ≡ meaning r₀.bench.host
-  pub program : r.bench.program ≡ r₀.bench.program
-  pub wiring : r.bench.wiring ≡ r₀.bench.wiring
+  pub bench : SameBench meaning r₀.bench r.bench
   pub mark_stays : mark r.policy ≡ mark r₀.policy
   pub sound : SoundRun meaning ports mark r
 
@@ -61,9 +59,9 @@ module _ {H P : Type 0} (meaning : H → Meaning) (ports : H → Ports) (mark : 
       let made = record_of cs given in
       let t = told c a in
       let reached = after m p made s in
-      let eq = same_program meaning r₀.bench r.bench k.program k.wiring in
+      let eq = same_program meaning r₀.bench r.bench k.bench in
       let both : (F : Meaning → Contents → Type 0) → F (meaning r.bench.host) (loaded r.bench) → F m p =
-      λ F x. subst (λ q. F m q) eq (subst (λ y. F y (loaded r.bench)) k.host x) in
+      λ F x. subst (λ q. F m q) eq (subst (λ y. F y (loaded r.bench)) k.bench.host x) in
       let pushed = record_push cs given c a e in
       let said_there : a ≡ answer m p t reached = both (λ y q. a ≡ answer y q t (shown ports r)) said ∙ ap (answer m p t) k.state ∙ answer_bare m p t reached in
       let leads : shown ports r' ≡ bare (leaves m p t reached) = both (λ y q. shown ports r' ≡ bare (leaves y q t (shown ports r))) f.state ∙ ap (λ x. bare (leaves m p t x)) k.state ∙ leaves_bare m p t reached in
@@ -75,9 +73,7 @@ module _ {H P : Type 0} (meaning : H → Meaning) (ports : H → Ports) (mark : 
         answered = ap (λ l. l ++ (a ∷ [])) k.answered ∙ ap (λ x. answers m p made s ++ (x ∷ [])) said_there ∙ sym (answers_more m p made t s) ∙ ap (λ l. answers m p l s) (sym pushed);
         state = leads ∙ ap bare (sym (after_more m p made t s)) ∙ ap (λ l. bare (after m p l s)) (sym pushed);
         chosen = subst (λ l. ByPolicy (mark r₀.policy) m p l s) (sym pushed) (chosen_more (Choice (mark r₀.policy)) m p made t s k.chosen asked);
-        host = f.host ∙ k.host;
-        program = f.program ∙ k.program;
-        wiring = f.wiring ∙ k.wiring;
+        bench = both_same meaning r₀.bench r.bench r'.bench k.bench f.bench;
         mark_stays = f.mark_stays ∙ k.mark_stays;
         sound = f.sound;
       }

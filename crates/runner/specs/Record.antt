@@ -14,7 +14,7 @@ use Rattle.machine.specs.Calls.{RunCall, after, answers, ByPolicy}
 use Rattle.runner.specs.declared.call.Call.{Call}
 use Rattle.runner.specs.declared.call.Call.TheVariants.{Tick, Done, State as AskState, Port}
 use Rattle.runner.specs.declared.run.Run.{Run}
-use Rattle.runner.specs.Sound.{loaded, shown, SoundRun}
+use Rattle.runner.specs.Sound.{loaded, shown, SameBench, SoundRun}
 
 -- none where the policy was not asked
 abbrev pub choice_told : Result Answer RunFault → Option ℕ
@@ -45,7 +45,5 @@ pub record PlaysOn {H P : Type 0} (meaning : H → Meaning) (ports : H → Ports
   pub state : shown ports then ≡ bare (after (meaning before.bench.host) (loaded before.bench) (record_of cs new) (shown ports before))
   -- every choice is one that the policy may make
   pub chosen : ByPolicy (mark before.policy) (meaning before.bench.host) (loaded before.bench) (record_of cs new) (shown ports before)
-  pub host : meaning then.bench.host ≡ meaning before.bench.host
-  pub program : then.bench.program ≡ before.bench.program
-  pub wiring : then.bench.wiring ≡ before.bench.wiring
+  pub bench : SameBench meaning before.bench then.bench
   pub sound : SoundRun meaning ports mark then

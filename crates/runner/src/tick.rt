@@ -31,13 +31,8 @@ impl<H: Host, P: Policy> Run<H, P> {
         if let Some(task) = self.progress.charge(&self.bench.program.budgets) {
             return Err(RunFault::BudgetUsedUp { task });
         }
-        self.progress
-            .open(&mut self.bench.host, &self.bench.wiring, readings);
-        let instructions = self.progress.run_due(
-            &mut self.bench.host,
-            &self.bench.program,
-            &self.bench.wiring,
-        );
+        self.progress.open(&mut self.bench, readings);
+        let instructions = self.progress.run_due(&mut self.bench);
         if let Some(stop) = self.progress.stop {
             return Err(RunFault::from(stop));
         }

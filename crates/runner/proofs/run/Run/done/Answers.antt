@@ -31,7 +31,7 @@ returns g c =
     let worked = c.work.ensures.after ∙ work_as_taken m (g.met.H.Host.lawful r.bench.host) t s.ports b.job b.below b.as_taken in
     record {
       answer = ended m p t s none runs;
-      follows = follows M ports mark g.met.H.Host.lawful r c.requires (Done t) _ c.work.ensures.same refl refl refl
+      follows = follows M ports mark g.met.H.Host.lawful r c.requires (Done t) _ (record { host = c.work.ensures.same; program = refl; wiring = refl }) refl
           ((λ x. record { ports = worked x; queue = s.queue; pending = c.clear.ensures r.bench.wiring.ports x; running = None; stop = s.stop; log = [] }) ∙ sym (ap bare (ends m p t s none runs b.job b.is)))
           tt;
       untouched = tt;

@@ -52,8 +52,6 @@ returns g c =
       answered = sym (take-append-drop n new) ∙ ap (λ l. l ++ drop n new) k.answered ∙ ap (λ l. answers m p l s ++ drop n new) cut ∙ ap (λ l. answers m p (record_of cs new) s ++ l) (c.loop-i.invariant.1 ∙ rest);
       state = k.state ∙ ap (λ l. bare (after m p l s)) cut;
       chosen = subst (λ l. ByPolicy (g.P.Policy.mark r₀.policy) m p l s) cut k.chosen;
-      host = k.host;
-      program = k.program;
-      wiring = k.wiring;
+      bench = k.bench;
       sound = k.sound;
     }
