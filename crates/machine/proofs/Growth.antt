@@ -1,5 +1,5 @@
 -- Nothing in a run grows: one invariant on the state, which instructions, ticks and ends of tasks keep.
-use Rattle.std.proofs.Common.{◌≡◌, ℕ, zero, suc, ◌+◌, ◌-◌, ◌*◌, ◌<◌, ◌≤◌, Bool, true, false, cond, ◌&&◌, eqb, ◌⊎◌, List, [], ◌∷◌, map, length, get_or, ℤ, is_some, Some, None, Option, sym, refl, ap, ◌∙◌, subst, inl, inr, arith}
+use Rattle.std.proofs.Common.{◌≡◌, ℕ, zero, suc, ◌+◌, ◌-◌, ◌*◌, ◌<◌, ◌≤◌, Bool, true, false, cond, ◌&&◌, eqb, ◌⊎◌, List, [], ◌∷◌, map, length, ℤ, is_some, Some, None, Option, sym, refl, ap, ◌∙◌, subst, inl, inr, arith}
 use Rattle.std.specs.List.{AllByRecursion}
 use Rattle.std.proofs.ByRecursion.{All-push, All-weaker, All-map}
 use Rattle.std.proofs.lemmas.Bool.{eqb-true, eq-eqb, leb-false}
@@ -12,6 +12,8 @@ use Rattle.host.specs.Meaning.{Meaning, Lawful}
 use Rattle.policy.specs.Choice.{Choice}
 use Rattle.machine.specs.declared.binding.Binding.{Binding}
 use Rattle.machine.specs.declared.stop.Stop.{Stop}
+use Rattle.machine.specs.declared.stop.Stop.TheVariants.{BudgetUsedUp, Touched}
+use Rattle.machine.specs.Refusals.{stop_number, stop_task, stop_address}
 use Rattle.machine.specs.State.{Ports, size, instruction_at, budget, Job, Table, is_pending, Event, State, fresh}
 use Rattle.machine.specs.Runner.{changed, touched, ports_after, queue_after, pending_after, next_after, performed, onward, thread, Due, first_due, with_queue, threads_on, unless_stopped, threads, one_more_used, charged, spent, exhausted, one_less_left, one_less_wait, kinds_of, opening, runs, tick_on, tick, finish, done}
 use Rattle.machine.specs.Choices.{pending_tasks}
@@ -38,7 +40,7 @@ pub record JobFits (m : Meaning) (p : Contents) (t : ℕ) (k : Job) : Type 0 whe
   pub taken : length k.taken ≡ m.sheet.ports
 
 abbrev StopFits : Meaning → Contents → Stop → Type 0
-StopFits m p x = ((x.number ≡ 14) ⊎ (x.number ≡ 15)) × (x.task < m.sheet.tasks) × (x.address < size p)
+StopFits m p x = ((stop_number x ≡ 14) ⊎ (stop_number x ≡ 15)) × (stop_task x < m.sheet.tasks) × (stop_address x < size p)
 
 abbrev Jobs : Meaning → Contents → Table → Type 0
 Jobs m p f = (t : ℕ) (k : Job) → f t ≡ Some k → JobFits m p t k
@@ -162,7 +164,7 @@ module _ (m : Meaning) (p : Contents) (ok : Lawful m) (ty : Formed m.sheet p) (t
             queue = i.queue;
             jobs = i.jobs;
             under = i.under;
-            stop = λ x q. (let z : record { number = 15; task = t; address = a } ≡ x = cc in
+            stop = λ x q. (let z : Touched t a ≡ x = cc in
                 subst (StopFits m p) z (inr refl, touched_below (instruction_at p a) s.pending t (ty.ranges a l) e, l));
             log = (l, i.log);
           })
@@ -335,9 +337,9 @@ module _ (m : Meaning) (p : Contents) (ok : Lawful m) (ty : Formed m.sheet p) (t
         ports = i.ports;
         queue = i.queue;
         jobs = charged_fits s.pending s.running i.jobs (i.under g);
-        under = λ z. no_stop (record { number = 14; task = x; address = 0 }) (sym z);
+        under = λ z. no_stop (BudgetUsedUp x) (sym z);
         running = λ n q. (let old = i.running n q in (old.0, charged_keeps s.pending s.running n old.1));
-        stop = λ y q. (let z : record { number = 14; task = x; address = 0 } ≡ y = cc in
+        stop = λ y q. (let z : BudgetUsedUp x ≡ y = cc in
             subst (StopFits m p) z (inl refl, (i.running x (exhausted_is (charged s.pending s.running) s.running x e)).0, omega (arith, ty.inside)));
         log = tt;
       })
@@ -453,11 +455,6 @@ stays_small mark m p v calls b fair =
     } in
     calls_fit m p b.lawful ty b.accepted.load.ticks mark calls (fresh p v) begun fair
 
--- either number of a stop is at most 15
-fifteen_at_most : (n : ℕ) → (n ≡ 14) ⊎ (n ≡ 15) → n ≤ 15
-fifteen_at_most n (inl e) = omega (arith, e)
-fifteen_at_most n (inr e) = omega (arith, e)
-
 pub grows : NothingGrows
 grows mark m p v calls b fair =
     let ticks = b.accepted.load.ticks in
@@ -474,7 +471,7 @@ grows mark m p v calls b fair =
       used = λ t k e. (let j = i.jobs t k e in omega (arith, j.used, (ticks t j.below).1));
       taken = λ t k e. (i.jobs t k e).taken;
       running = λ n e. (i.running n e).1;
-      stop = λ x e. (let k = i.stop x e in (fifteen_at_most x.number k.0, k.1, k.2));
+      stop = i.stop;
       log = last_log m p (λ log. length log ≤ m.sheet.tasks * size p) calls (fresh p v) (omega arith) w.instructions;
       events = both s.log i.log (last_log m p (AllByRecursion (λ e. e.waiting ≤ m.sheet.tasks)) calls (fresh p v) tt w.waiting);
     }

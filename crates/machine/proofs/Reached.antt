@@ -1,5 +1,5 @@
 -- What the code of a run rests on, of every state that a list of calls comes to.
-use Rattle.std.proofs.Common.{◌≡◌, ℕ, zero, suc, ◌<◌, ◌≤◌, Bool, true, false, cond, List, [], ◌∷◌, ◌++◌, length, take, ℤ, is_some, Some, None, Err, Option, refl, ap, subst, arith}
+use Rattle.std.proofs.Common.{◌≡◌, ℕ, zero, suc, ◌<◌, ◌≤◌, Bool, true, false, cond, List, [], ◌∷◌, ◌++◌, length, take, ℤ, is_some, Some, None, Err, Option, Result, refl, ap, subst, arith}
 use mathlib.Core.Bool.{false≢true}
 use Rattle.std.specs.List.{AllByRecursion}
 use Rattle.std.proofs.ByRecursion.{All-weaker}
@@ -8,6 +8,7 @@ use Rattle.host.specs.Meaning.{Meaning}
 use Rattle.policy.specs.declared.pending.PendingTask.{PendingTask}
 use Rattle.machine.specs.declared.answer.Answer.{Answer}
 use Rattle.machine.specs.declared.answer.Answer.TheVariants.{Ran}
+use Rattle.machine.specs.declared.fault.RunFault.{RunFault}
 use Rattle.machine.specs.declared.fault.RunFault.TheVariants.{Readings}
 use Rattle.machine.specs.declared.stop.Stop.{Stop}
 use Rattle.machine.specs.State.{Ports, size, budget, Job, State, fresh, bare}
@@ -53,7 +54,7 @@ pub answer_bare : (m : Meaning) (p : Contents) (c : RunCall) (s : State) → ans
 answer_bare m p (Tick r c) s = go s.stop (counts m r)
   where
     -- the answer of a tick to s', with the run stopped or not before it and the readings counted or not
-    told : Option Stop → Bool → State → Answer
+    told : Option Stop → Bool → State → Result Answer RunFault
     told x b s' = answered Ran (unless_over x (cond b (ran_or_stopped s'.stop (length s'.log) s'.running) (Err (Readings (length r)))))
 
     go : (x : Option Stop) (b : Bool) → told x b (if_going x (cond b (tick m p r c (bare s)) (bare s)) (bare s)) ≡ told x b (if_going x (cond b (tick m p r c s) s) s)
@@ -72,7 +73,7 @@ after_more m p (d ∷ calls) c s = after_more m p calls c (leaves m p d s)
 pub answers_more : (m : Meaning) (p : Contents) (calls : List RunCall) (c : RunCall) (s : State) →
     answers m p (calls ++ (c ∷ [])) s ≡ answers m p calls s ++ (answer m p c (after m p calls s) ∷ [])
 answers_more m p [] c s = refl
-answers_more m p (d ∷ calls) c s = ap (λ (xs : List Answer). answer m p d s ∷ xs) (answers_more m p calls c (leaves m p d s))
+answers_more m p (d ∷ calls) c s = ap (λ (xs : List (Result Answer RunFault)). answer m p d s ∷ xs) (answers_more m p calls c (leaves m p d s))
 
 -- its choice is right after right ones
 pub chosen_more : (Right : List PendingTask → Option ℕ → Type 0) (m : Meaning) (p : Contents) (calls : List RunCall) (c : RunCall) (s : State) →

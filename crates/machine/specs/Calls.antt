@@ -17,10 +17,12 @@ use Rattle.policy.specs.declared.pending.PendingTask.{PendingTask}
 use Rattle.policy.specs.Choice.{Choice}
 use Rattle.machine.specs.declared.answer.Ticked.{Ticked}
 use Rattle.machine.specs.declared.answer.Answer.{Answer}
-use Rattle.machine.specs.declared.answer.Answer.TheVariants.{Ran, Ended, StoppedBy, Value, Refused}
+use Rattle.machine.specs.declared.answer.Answer.TheVariants.{Ran, Ended, StoppedBy, Value}
 use Rattle.machine.specs.declared.fault.RunFault.{RunFault}
 use Rattle.machine.specs.declared.fault.RunFault.TheVariants.{Readings, NotRunning, BudgetUsedUp, Touched, AfterStop, NoPort}
 use Rattle.machine.specs.declared.stop.Stop.{Stop}
+use Rattle.machine.specs.declared.stop.Stop.TheVariants as stop
+use Rattle.machine.specs.Refusals.{stop_task}
 use Rattle.machine.specs.State.{Ports, Table, Event, State}
 use Rattle.machine.specs.Runner.{kinds_of, tick, done}
 use Rattle.machine.specs.Choices.{pending_tasks}
@@ -66,7 +68,8 @@ leaves m p (AskPort x) s = s
 
 -- the refusal of a tick that stopped
 abbrev pub fault_of : Stop → RunFault
-fault_of x = cond (x.number == 14) (BudgetUsedUp x.task) (Touched x.task)
+fault_of (stop.BudgetUsedUp task) = BudgetUsedUp task
+fault_of (stop.Touched task address) = Touched task
 
 -- a tick that stopped answers its stop, another the number of instructions that it ran and the running task
 abbrev pub ran_or_stopped : Option Stop → ℕ → Option ℕ → Result Ticked RunFault
@@ -76,7 +79,7 @@ ran_or_stopped (Some x) n running = Err (fault_of x)
 -- tick and done after a stop: 16, with the stop's task
 abbrev pub unless_over : {A : Type 0} → Option Stop → Result A RunFault → Result A RunFault
 unless_over None answer = answer
-unless_over (Some x) answer = Err (AfterStop x.task)
+unless_over (Some x) answer = Err (AfterStop (stop_task x))
 
 -- the answer of a tick that goes from s to s'
 abbrev pub tick_answer : Meaning → List ℤ → State → State → Result Ticked RunFault
@@ -96,16 +99,16 @@ state_answer s = s.stop
 abbrev pub port_answer : Meaning → ℕ → State → Result ℤ RunFault
 port_answer m x s = cond (nat_lt x m.sheet.ports) (Ok (reading s.ports x)) (Err (NoPort x))
 
--- a result as an answer
-abbrev pub answered : {A : Type 0} → (A → Answer) → Result A RunFault → Answer
-answered kind (Ok x) = kind x
-answered kind (Err fault) = Refused fault
+-- the answer that a result makes, and a refusal as it is
+abbrev pub answered : {A : Type 0} → (A → Answer) → Result A RunFault → Result Answer RunFault
+answered kind (Ok x) = Ok (kind x)
+answered kind (Err fault) = Err fault
 
 -- the answer of a call made in the state s
-abbrev pub answer : Meaning → Contents → RunCall → State → Answer
+abbrev pub answer : Meaning → Contents → RunCall → State → Result Answer RunFault
 answer m p (Tick readings choice) s = answered Ran (tick_answer m readings s (leaves m p (Tick readings choice) s))
 answer m p (Done t) s = answered (λ _. Ended) (done_answer t s)
-answer m p AskState s = StoppedBy (state_answer s)
+answer m p AskState s = Ok (StoppedBy (state_answer s))
 answer m p (AskPort x) s = answered Value (port_answer m x s)
 
 -- one call after the other
@@ -114,7 +117,7 @@ after m p [] s = s
 after m p (c ∷ calls) s = after m p calls (leaves m p c s)
 
 -- the answer of each call, in the state that those before it leave
-abbrev pub answers : Meaning → Contents → List RunCall → State → List Answer
+abbrev pub answers : Meaning → Contents → List RunCall → State → List (Result Answer RunFault)
 answers m p [] s = []
 answers m p (c ∷ calls) s = answer m p c s ∷ answers m p calls (leaves m p c s)
 

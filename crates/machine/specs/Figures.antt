@@ -4,7 +4,7 @@
 --   one_tick, eleven_ticks, worked_run    the runs
 --   RunFigures          the runs, under a policy that goes by the earliest deadline and one that goes by the number
 --   Figures             all of them
-use Rattle.std.specs.Prelude.{◌≡◌, ℕ, List, [], ◌∷◌, ◌++◌, replicate, ℤ, pos, Some, None, Ok, Option}
+use Rattle.std.specs.Prelude.{◌≡◌, ℕ, List, [], ◌∷◌, ◌++◌, replicate, ℤ, pos, Some, None, Ok, Err, Option, Result}
 use Rattle.ecode.specs.Image.{entry, code}
 use Rattle.ecode.specs.Verdict.{Contents, verdict}
 use Rattle.host.specs.Pitch.{pitch_sheet}
@@ -12,8 +12,10 @@ use Rattle.host.specs.PitchHost.{pitch_meaning}
 use Rattle.host.specs.Figures.{two_rate, CheckFigures}
 use Rattle.policy.specs.Policies.{EarliestLowest, LowestFirst}
 use Rattle.machine.specs.declared.answer.Answer.{Answer}
-use Rattle.machine.specs.declared.answer.Answer.TheVariants.{Ran, Ended, StoppedBy, Refused}
+use Rattle.machine.specs.declared.answer.Answer.TheVariants.{Ran, Ended, StoppedBy}
+use Rattle.machine.specs.declared.fault.RunFault.{RunFault}
 use Rattle.machine.specs.declared.fault.RunFault.TheVariants.{Touched}
+use Rattle.machine.specs.declared.stop.Stop.TheVariants as stop
 use Rattle.machine.specs.Refusals.{run_refusal}
 use Rattle.machine.specs.State.{State, fresh}
 use Rattle.machine.specs.Calls.{RunCall, Tick, Done, AskState, after, answers, AsChosen}
@@ -48,8 +50,8 @@ worked_run =
     ticks 2 (Some 1) ++ (Done 1 ∷ (ticks 5 (Some 0) ++ (Done 0 ∷ (ticks 3 None ++ (ticks 2 (Some 1) ++ (Done 1 ∷ (ticks 8 None ++ ticks 1 (Some 1))))))))
 
 -- a tick that ran so many instructions
-abbrev pub ran : ℕ → Option ℕ → Answer
-ran n running = Ran (record { instructions = n; running = running })
+abbrev pub ran : ℕ → Option ℕ → Result Answer RunFault
+ran n running = Ok (Ran (record { instructions = n; running = running }))
 
 -- what its runs come to
 pub record RunFigures : Type 0 where
@@ -63,13 +65,13 @@ pub record RunFigures : Type 0 where
   pub lowest_chooses : AsChosen LowestFirst pitch_meaning two_rate_program eleven_ticks pitch_start
   pub tick_ten : answers pitch_meaning two_rate_program eleven_ticks pitch_start
       ≡ ran 7 (Some 0) ∷ (replicate 9 (ran 0 (Some 0))
-      ++ (Refused (Touched 1) ∷ StoppedBy (Some (record { number = 15; task = 1; address = 7 })) ∷ []))
+      ++ (Err (Touched 1) ∷ Ok (StoppedBy (Some (stop.Touched 1 7))) ∷ []))
   pub number_of_it : run_refusal (Touched 1) ≡ record { number = 15; place = 1 }
   -- the worked run: its choices are the earliest policy's; what its calls answer, and the ports that it leaves
   pub worked_chooses : AsChosen EarliestLowest pitch_meaning two_rate_program worked_run pitch_start
   pub worked_answers : answers pitch_meaning two_rate_program worked_run pitch_start
-      ≡ ran 7 (Some 1) ∷ ran 0 (Some 1) ∷ Ended ∷ (replicate 5 (ran 0 (Some 0)) ++ (Ended ∷ (replicate 3 (ran 0 None)
-      ++ (ran 4 (Some 1) ∷ ran 0 (Some 1) ∷ Ended ∷ (replicate 8 (ran 0 None) ++ (ran 7 (Some 1) ∷ []))))))
+      ≡ ran 7 (Some 1) ∷ ran 0 (Some 1) ∷ Ok Ended ∷ (replicate 5 (ran 0 (Some 0)) ++ (Ok Ended ∷ (replicate 3 (ran 0 None)
+      ++ (ran 4 (Some 1) ∷ ran 0 (Some 1) ∷ Ok Ended ∷ (replicate 8 (ran 0 None) ++ (ran 7 (Some 1) ∷ []))))))
   pub worked_ports : (after pitch_meaning two_rate_program worked_run pitch_start).ports
       ≡ pos 9200 ∷ pos 0 ∷ pos 6900 ∷ pos 9200 ∷ pos 1000 ∷ pos 1000 ∷ pos 6900 ∷ pos 6900 ∷ []
 

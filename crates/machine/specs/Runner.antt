@@ -12,7 +12,7 @@
 --   done              the running task ends
 -- Loops are by a number of turns that is always enough: a thread only goes to higher addresses, and a binding made in a tick
 -- waits for a later one.
-use Rattle.std.specs.Prelude.{ℕ, zero, suc, ◌+◌, ◌-◌, Bool, false, cond, ◌&&◌, List, [], ◌∷◌, ◌++◌, map, length, take, ℤ, Some, None, Option, ◌==◌, nat_le, slice_index}
+use Rattle.std.specs.Prelude.{ℕ, zero, suc, ◌+◌, ◌-◌, Bool, false, cond, ◌&&◌, List, [], ◌∷◌, ◌++◌, map, length, take, ℤ, Some, None, Option, ◌==◌, nat_le}
 use Rattle.ecode.specs.declared.port.PortKind.{PortKind}
 use Rattle.ecode.specs.declared.port.PortKind.TheVariants.{Sensor, Driver, Task}
 use Rattle.ecode.specs.declared.sheet.Sheet.{Sheet}
@@ -24,6 +24,7 @@ use Rattle.ecode.specs.Verdict.{Contents}
 use Rattle.host.specs.Meaning.{Meaning, reading}
 use Rattle.machine.specs.declared.binding.Binding.{Binding}
 use Rattle.machine.specs.declared.stop.Stop.{Stop}
+use Rattle.machine.specs.declared.stop.Stop.TheVariants.{BudgetUsedUp, Touched}
 use Rattle.machine.specs.State.{Ports, size, instruction_at, budget, Job, Table, is_pending, Event, State}
 
 -- f, but v at i
@@ -115,7 +116,7 @@ performed m i a (Some t) s = record {
     queue = s.queue;
     pending = s.pending;
     running = s.running;
-    stop = Some (record { number = 15; task = t; address = a });
+    stop = Some (Touched t a);
     log = event a i s.queue s.pending ∷ s.log;
   };
   next = None;
@@ -238,7 +239,7 @@ tick_on m p readings choice s f (Some i) = record {
   queue = s.queue;
   pending = f;
   running = s.running;
-  stop = Some (record { number = 14; task = i; address = 0 });
+  stop = Some (BudgetUsedUp i);
   log = [];
 }
 tick_on m p readings choice s f None = closing (threads m p (length s.queue) (opening m readings s f)) choice

@@ -1,8 +1,11 @@
 // Why a call on a run was refused. Each fault says its number and place.
 ghost use Rattle.std.specs.Prelude.{◌≡◌};
+ghost use Rattle.machine.specs.Calls.{fault_of};
 ghost use Rattle.machine.specs.Refusals.{run_refusal};
 
-#[derive(Clone, Copy)]
+use crate::stop::Stop;
+
+#[derive(Clone, Copy, PartialEq, Eq)]
 pub enum RunFault {
     Readings { given: usize },
     NotRunning { task: u8 },
@@ -13,7 +16,7 @@ pub enum RunFault {
 }
 
 // A refusal as the caller reads it. The place is a number of readings, a task or a port, by the number.
-#[derive(Clone, Copy)]
+#[derive(Clone, Copy, PartialEq, Eq)]
 pub struct RunRefusal {
     pub number: u8,
     pub place: usize,
@@ -32,5 +35,17 @@ impl RunFault {
             RunFault::NoPort { port } => (17, port as usize),
         };
         RunRefusal { number, place }
+    }
+}
+
+// The refusal of a tick that stopped.
+impl From<Stop> for RunFault {
+    ghost from_gives = { λ s r. r ≡ fault_of s };
+
+    fn from(stop: Stop) -> RunFault {
+        match stop {
+            Stop::BudgetUsedUp { task } => RunFault::BudgetUsedUp { task },
+            Stop::Touched { task, .. } => RunFault::Touched { task },
+        }
     }
 }

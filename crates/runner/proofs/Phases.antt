@@ -1,31 +1,33 @@
 -- The phases of a tick on a sound run: what each leaves, and what the tick then answers, by the reference runner.
-use Rattle.std.proofs.Common.{◌≡◌, ℕ, ◌-◌, ◌≤◌, Bool, true, false, List, [], length, get_or, take, ℤ, Some, None, Ok, Err, Option, sym, ap, ◌∙◌, subst, arith}
+use Rattle.std.proofs.Common.{◌≡◌, ℕ, ◌≤◌, Bool, true, false, List, [], length, get_or, ℤ, Some, None, Ok, Err, Option, sym, ap, ◌∙◌, subst, arith}
 use lib.ListN.{length-map}
 use Rattle.std.proofs.lemmas.Bool.{eq-eqb}
 use Rattle.ecode.specs.Verdict.{Contents}
 use Rattle.host.specs.Meaning.{Meaning, Lawful}
+use Rattle.policy.specs.declared.pending.PendingTask.{PendingTask}
 use Rattle.policy.specs.Choice.{Choice}
 use Rattle.machine.specs.declared.stop.Stop.{Stop}
-use Rattle.machine.specs.declared.fault.RunFault.TheVariants.{BudgetUsedUp, Touched}
+use Rattle.machine.specs.declared.stop.Stop.TheVariants as stop
+use Rattle.machine.specs.declared.fault.RunFault.TheVariants.{BudgetUsedUp}
 use Rattle.machine.specs.State.{Ports, Table, State, bare, is_pending, budget}
 use Rattle.machine.specs.Runner.{charged, exhausted, one_less_wait, kinds_of, opening, closing, threads}
 use Rattle.machine.specs.Choices.{pending_tasks}
-use Rattle.machine.specs.Calls.{Tick, counts, sensor_count, leaves, ran_or_stopped, tick_answer, Asked}
+use Rattle.machine.specs.Calls.{Tick, counts, sensor_count, leaves, fault_of, ran_or_stopped, tick_answer, Asked}
 use Rattle.machine.proofs.Reached.{Steady}
-use Rattle.parts.specs.declared.data.PendingList.{PendingList}
 use Rattle.parts.specs.declared.data.Wiring.{Wiring}
 use Rattle.parts.specs.Shown.{queued, jobs}
+use Rattle.runner.specs.declared.bench.Bench.{Bench}
 use Rattle.runner.specs.declared.progress.Progress.{Progress}
 use Rattle.runner.specs.declared.run.Run.{Run}
 use Rattle.runner.specs.Standing.{standing, after_charge}
-use Rattle.runner.specs.Turns.{OnlyTouch, Inside, Roomy}
-use Rattle.runner.specs.Sound.{loaded, shown, SoundRun}
-use Rattle.runner.proofs.Sounds.{steady_run}
+use Rattle.runner.specs.Turns.{Inside, Roomy}
+use Rattle.runner.specs.Sound.{loaded, SameBench, working, shown, SoundRun}
+use Rattle.runner.proofs.Sounds.{same_program, same_count, steady_run}
 use Rattle.runner.proofs.Turns.{size_is}
-use Rattle.runner.proofs.Ticks.{sensors_long, ticks, answers, used_up, goes, exhausted_same, charged_pending, none_beyond, inside_fallen, closed_stopped, closed_going, touched_answer, ran_answer}
+use Rattle.runner.proofs.Ticks.{sensors_long, ticks, answers, used_up, goes, exhausted_same, charged_pending, none_beyond, inside_fallen, closed_stopped, closed_going, stopped_answer, ran_answer}
 
 module _ {H P : Type 0} (meaning : H → Meaning) (ports : H → Ports) (mark : P → Bool) (lawful : (h : H) → Lawful (meaning h))
-    (r : Run H P) (sound : SoundRun meaning ports mark r) (rd : List ℤ) (none : r.progress.stop ≡ None) (enough : length rd ≡ r.bench.wiring.sensors.len) where
+    (r : Run H P) (sound : SoundRun meaning ports mark r) (rd : List ℤ) (none : r.progress.stop ≡ None) (enough : length rd ≡ length r.bench.wiring.sensors.items) where
   abbrev m : Meaning
   m = meaning r.bench.host
 
@@ -69,7 +71,7 @@ module _ {H P : Type 0} (meaning : H → Meaning) (ports : H → Ports) (mark : 
     over_answer = sym (answers m p rd s none takes (leaves m p (Tick rd None) s) ∙ ap (λ (x : State). ran_or_stopped x.stop (length x.log) x.running) is_over)
 
     pub over_asked : Asked (Choice (mark r.policy)) m (Tick rd None) (leaves m p (Tick rd None) s)
-    over_asked k e = absurd (let z : Some (record { number = 14; task = t; address = 0 }) ≡ None = sym (ap (λ (x : State). x.stop) is_over) ∙ e in let y : ◌≡◌ {A = ℕ} 0 1 = cc in omega arith)
+    over_asked k e = absurd (let z : Some (stop.BudgetUsedUp t) ≡ None = sym (ap (λ (x : State). x.stop) is_over) ∙ e in let y : ◌≡◌ {A = ℕ} 0 1 = cc in omega arith)
 
   -- none is: g is what the charge left
   module _ (g : Progress) (said : None ≡ exhausted (λ t. get_or r.bench.program.budgets t 0) slots s.running) (left : standing w v [] g ≡ after_charge None s) where
@@ -80,53 +82,54 @@ module _ {H P : Type 0} (meaning : H → Meaning) (ports : H → Ports) (mark : 
     still_below t h =
         ap (λ (x : State). is_pending x.pending t) left ∙ charged_pending s.pending s.running t ∙ none_beyond m p s rests t (omega (arith, sound.bench.wired.tasks))
 
-    -- time has passed: h and g₁ are what is left then
-    module _ (h : H) (g₁ : Progress) (same : meaning h ≡ m) (opens : standing w (ports h) [] g₁ ≡ opening m rd (standing w v [] g) (jobs w.ports g.table)) where
-      opened : standing w (ports h) [] g₁ ≡ opening m rd s slots
+    -- time has passed: b₁ and g₁ are what is left then
+    module _ (b₁ : Bench H) (g₁ : Progress) (same : SameBench meaning r.bench b₁) (opens : working ports b₁ [] g₁ ≡ opening m rd (standing w v [] g) (jobs w.ports g.table)) where
+      opened : working ports b₁ [] g₁ ≡ opening m rd s slots
       opened = opens ∙ ap (λ (x : State). opening m rd x x.pending) left
 
       pub no_stop : g₁.stop ≡ None
       no_stop = ap (λ (x : State). x.stop) opened
 
-      pub queue_inside : Inside r.bench.program.listing.count (queued g₁.queue)
+      pub queue_inside : Inside b₁.program.listing.count (queued g₁.queue)
       queue_inside =
-          subst (λ n. Inside n (queued g₁.queue)) (size_is w r.bench.program)
+          subst (λ n. Inside n (queued g₁.queue)) (size_is w r.bench.program ∙ sym (same_count meaning r.bench b₁ same))
           (subst (Inside _) (sym (ap (λ (x : State). x.queue) opened)) (inside_fallen _ s.queue rests.inside))
 
       -- what the due loop comes to
       abbrev pub whole : State
       whole = threads m p (length s.queue) (opening m rd s slots)
 
-      pub whole_is : threads (meaning h) p (length (queued g₁.queue)) (standing w (ports h) [] g₁) ≡ whole
+      pub whole_is : threads (meaning b₁.host) (loaded b₁) (length (queued g₁.queue)) (working ports b₁ [] g₁) ≡ whole
       whole_is =
-          ap (λ x. threads x p (length (queued g₁.queue)) (standing w (ports h) [] g₁)) same
-          ∙ ap (λ n. threads m p n (standing w (ports h) [] g₁)) (ap (λ (x : State). length x.queue) opened ∙ length-map s.queue one_less_wait)
+          ap (λ x. threads x (loaded b₁) (length (queued g₁.queue)) (working ports b₁ [] g₁)) same.host
+          ∙ ap (λ q. threads m q (length (queued g₁.queue)) (working ports b₁ [] g₁)) (same_program meaning r.bench b₁ same)
+          ∙ ap (λ n. threads m p n (working ports b₁ [] g₁)) (ap (λ (x : State). length x.queue) opened ∙ length-map s.queue one_less_wait)
           ∙ ap (threads m p (length s.queue)) opened
 
       ends_as : (c : Option ℕ) → leaves m p (Tick rd c) s ≡ closing whole c
       ends_as c = ticks m p rd s none takes c ∙ goes m p rd s none c (charges None said)
 
-      pub room : Roomy (threads (meaning h) p (length (queued g₁.queue)) (standing w (ports h) [] g₁)).log
+      pub room : Roomy (threads (meaning b₁.host) (loaded b₁) (length (queued g₁.queue)) (working ports b₁ [] g₁)).log
       room =
           subst (λ (x : State). Roomy x.log) (sym whole_is)
           (subst (λ (x : State). Roomy x.log) (goes m p rd s none None (charges None said)) (rests.room rd None))
 
-      -- the due loop has ended: h₂ and g₂ are what is left then
-      module _ (h₂ : H) (g₂ : Progress) (n : ℕ) (came : standing w (ports h₂) whole.log g₂ ≡ whole) (counted : n ≡ length whole.log) where
+      -- the due loop has ended: b₂ and g₂ are what is left then
+      module _ (b₂ : Bench H) (g₂ : Progress) (n : ℕ) (came : working ports b₂ whole.log g₂ ≡ whole) (counted : n ≡ length whole.log) where
         -- it stopped
-        module _ (x : Stop) (stopped : g₂.stop ≡ Some x) (touch : OnlyTouch g₂.stop) where
+        module _ (x : Stop) (stopped : g₂.stop ≡ Some x) where
           whole_stop : whole.stop ≡ Some x
           whole_stop = ap (λ (y : State). y.stop) (sym came) ∙ stopped
 
           stays : leaves m p (Tick rd None) s ≡ whole
           stays = ends_as None ∙ closed_stopped whole x None whole_stop
 
-          pub stop_state : standing w (ports h₂) [] g₂ ≡ bare (leaves m p (Tick rd None) s)
+          pub stop_state : working ports b₂ [] g₂ ≡ bare (leaves m p (Tick rd None) s)
           stop_state = ap bare came ∙ sym (ap bare stays)
 
-          pub stop_answer : Err (Touched x.task) ≡ tick_answer m rd s (leaves m p (Tick rd None) s)
+          pub stop_answer : Err (fault_of x) ≡ tick_answer m rd s (leaves m p (Tick rd None) s)
           stop_answer =
-              touched_answer whole.stop x (length whole.log) whole.running whole_stop (subst OnlyTouch (ap (λ (y : State). y.stop) came) touch)
+              stopped_answer whole.stop x (length whole.log) whole.running whole_stop
               ∙ sym (answers m p rd s none takes (leaves m p (Tick rd None) s) ∙ ap (λ (y : State). ran_or_stopped y.stop (length y.log) y.running) stays)
 
           pub stop_asked : Asked (Choice (mark r.policy)) m (Tick rd None) (leaves m p (Tick rd None) s)
@@ -137,7 +140,7 @@ module _ {H P : Type 0} (meaning : H → Meaning) (ports : H → Ports) (mark : 
           goes_on : leaves m p (Tick rd c) s ≡ record { ports = whole.ports; queue = whole.queue; pending = whole.pending; running = c; stop = whole.stop; log = whole.log }
           goes_on = ends_as c ∙ closed_going whole c (ap (λ (y : State). y.stop) (sym came) ∙ going)
 
-          pub ran_state : standing w (ports h₂) [] (record { queue = g₂.queue; table = g₂.table; running = c; stop = g₂.stop }) ≡ bare (leaves m p (Tick rd c) s)
+          pub ran_state : working ports b₂ [] (record { queue = g₂.queue; table = g₂.table; running = c; stop = g₂.stop }) ≡ bare (leaves m p (Tick rd c) s)
           ran_state = ap (λ (y : State). record { ports = y.ports; queue = y.queue; pending = y.pending; running = c; stop = y.stop; log = [] }) came ∙ sym (ap bare goes_on)
 
           pub ran_answer_is : Ok (record { instructions = n; running = c }) ≡ tick_answer m rd s (leaves m p (Tick rd c) s)
@@ -146,11 +149,10 @@ module _ {H P : Type 0} (meaning : H → Meaning) (ports : H → Ports) (mark : 
               ∙ sym (answers m p rd s none takes (leaves m p (Tick rd c) s) ∙ ap (λ (y : State). ran_or_stopped y.stop (length y.log) y.running) goes_on)
 
           -- the policy was told the pending tasks
-          pub ran_asked : (list : PendingList) → take list.len list.items ≡ pending_tasks w.tasks (jobs w.ports g₂.table)
-              → Choice (mark r.policy) (take (list.len - 0) list.items) c → Asked (Choice (mark r.policy)) m (Tick rd c) (leaves m p (Tick rd c) s)
-          ran_asked list told choice k e =
-              let all : list.len - 0 ≡ list.len = omega arith in
-              let told_all : take (list.len - 0) list.items ≡ pending_tasks m.sheet.tasks (leaves m p (Tick rd c) s).pending =
-              ap (λ j. take j list.items) all ∙ told ∙ ap (λ j. pending_tasks j (jobs w.ports g₂.table)) sound.bench.wired.tasks
+          pub ran_asked : SameBench meaning r.bench b₂ → (list : List PendingTask) → list ≡ pending_tasks b₂.wiring.tasks (jobs b₂.wiring.ports g₂.table)
+              → Choice (mark r.policy) list c → Asked (Choice (mark r.policy)) m (Tick rd c) (leaves m p (Tick rd c) s)
+          ran_asked kept list told choice k e =
+              let told_all : list ≡ pending_tasks m.sheet.tasks (leaves m p (Tick rd c) s).pending =
+              told ∙ ap (λ j. pending_tasks j (jobs b₂.wiring.ports g₂.table)) (ap (λ (w : Wiring). w.tasks) kept.wiring ∙ sound.bench.wired.tasks)
               ∙ ap (pending_tasks m.sheet.tasks) (ap (λ (y : State). y.pending) came ∙ sym (ap (λ (y : State). y.pending) goes_on)) in
               subst (λ l. Choice (mark r.policy) l c) told_all choice

@@ -1,9 +1,10 @@
 -- A whole run keeps the promise: it went as the reference runner goes, of whose runs the laws hold.
-use Rattle.std.proofs.Common.{◌≡◌, ℕ, Bool, List, ◌++◌, length, take, drop, ap, ◌∙◌, subst}
+use Rattle.std.proofs.Common.{◌≡◌, ℕ, Bool, List, ◌++◌, length, take, drop, Result, ap, ◌∙◌, subst}
 use Rattle.ecode.specs.Verdict.{Contents}
 use Rattle.host.specs.Meaning.{Meaning, Lawful}
 use Rattle.policy.specs.Choice.{Choice}
 use Rattle.machine.specs.declared.answer.Answer.{Answer}
+use Rattle.machine.specs.declared.fault.RunFault.{RunFault}
 use Rattle.machine.specs.State.{Ports, Table, State, fresh}
 use Rattle.machine.specs.Begins.{Begins}
 use Rattle.machine.specs.Calls.{RunCall, after, answers, ByPolicy, Written, GivenBack}
@@ -23,7 +24,7 @@ use Rattle.runner.proofs.Sounds.{same_program}
 module _ {H P : Type 0} (meaning : H → Meaning) (ports : H → Ports) (mark : P → Bool) (lawful : (h : H) → Lawful (meaning h))
     (long : (h : H) → length (ports h) ≡ (meaning h).sheet.ports) (b : Bench H) (policy : P) (sound : SoundBench meaning b)
     (r : Run H P) (of_bench : r.bench ≡ b) (of_policy : r.policy ≡ policy) (begun : shown ports r ≡ fresh (loaded b) (ports b.host))
-    (cs : List Call) (old new : List Answer) (r' : Run H P) (plays : PlaysOn meaning ports mark cs old new r r') where
+    (cs : List Call) (old new : List (Result Answer RunFault)) (r' : Run H P) (plays : PlaysOn meaning ports mark cs old new r r') where
   abbrev m : Meaning
   m = meaning b.host
 
@@ -59,10 +60,10 @@ module _ {H P : Type 0} (meaning : H → Meaning) (ports : H → Ports) (mark : 
   same_pending = moved (λ y q s. (shown ports r').pending ≡ (after y q made s).pending) (ap (λ (s : State). s.pending) plays.state)
 
   same_host : meaning r'.bench.host ≡ m
-  same_host = plays.host ∙ ap (λ (y : Bench H). meaning y.host) of_bench
+  same_host = plays.bench.host ∙ ap (λ (y : Bench H). meaning y.host) of_bench
 
   same_loaded : loaded r'.bench ≡ p
-  same_loaded = same_program meaning r.bench r'.bench plays.program plays.wiring ∙ ap loaded of_bench
+  same_loaded = same_program meaning r.bench r'.bench plays.bench ∙ ap loaded of_bench
 
   given_back : (m' : Meaning) (v' : Ports) (p' : Contents) (bytes : List ℕ) → GivenBack (meaning r'.bench.host) (loaded r'.bench) (shown ports r') m' v' p' bytes
       → GivenBack m p (after m p made (fresh p v)) m' v' p' bytes

@@ -1,5 +1,6 @@
 -- Soundness is kept: one call more is made on a run that some calls came to.
-use Rattle.std.proofs.Common.{◌≡◌, ℕ, Bool, List, [], ◌∷◌, ◌++◌, length, None, Option, sym, ap, ◌∙◌, subst}
+use Rattle.std.proofs.Common.{◌≡◌, ℕ, Bool, List, [], ◌∷◌, ◌++◌, length, None, Option, refl, sym, ap, ◌∙◌, subst}
+use Rattle.ecode.specs.declared.code.Program.{Program}
 use Rattle.ecode.specs.Verdict.{Contents}
 use Rattle.ecode.specs.Accepted.{Accepted}
 use Rattle.host.specs.Meaning.{Meaning, Lawful}
@@ -11,11 +12,17 @@ use Rattle.machine.specs.Calls.{RunCall, Tick, Done, AskState, AskPort, leaves, 
 use Rattle.machine.specs.Begins.{RowsOfEight, Begins}
 use Rattle.machine.proofs.Reached.{leaves_bare, after_more, chosen_more, Steady, steady}
 use Rattle.parts.specs.Wired.{WiredFor}
+use Rattle.parts.specs.declared.data.Wiring.{Wiring}
+use Rattle.std.proofs.Math.Nat.{ℕ_set}
 use Rattle.runner.specs.declared.bench.Bench.{Bench}
 use Rattle.runner.specs.declared.run.Run.{Run}
 use Rattle.runner.specs.Standing.{program_of}
-use Rattle.runner.specs.Sound.{loaded, SoundBench, shown, SoundRun}
+use Rattle.runner.specs.Sound.{loaded, SoundBench, SameBench, shown, SoundRun}
 use Rattle.runner.specs.Follows.{Follows}
+
+-- a wiring that was lent out in parts comes back as it was
+pub returned : (w : Wiring) (wide : length w.sharing ≡ 32) → record { ports = w.ports; tasks = w.tasks; sensors = w.sensors; sharing = w.sharing; wide = wide } ≡ w
+returned w wide x = record { ports = w.ports; tasks = w.tasks; sensors = w.sensors; sharing = w.sharing; wide = ℕ_set (length w.sharing) 32 wide w.wide x }
 
 -- what a run rests on holds of it without its log
 bare_steady : (m : Meaning) (p : Contents) (s : State) → Steady m p s → Steady m p (bare s)
@@ -38,15 +45,25 @@ asked_same Right m AskState s t e a = tt
 asked_same Right m (AskPort x) s t e a = tt
 
 module _ {H : Type 0} (meaning : H → Meaning) where
-  pub same_program : (b b' : Bench H) → b'.program ≡ b.program → b'.wiring ≡ b.wiring → loaded b' ≡ loaded b
-  same_program b b' ep ew = ap (program_of b'.wiring) ep ∙ ap (λ w. program_of w b.program) ew
+  -- a bench is as it was, and so it is after two calls that leave it so
+  pub unchanged : (b : Bench H) → SameBench meaning b b
+  unchanged b = record { host = refl; program = refl; wiring = refl }
 
-  -- a bench with the same program for a host of the same meaning
-  pub bench_kept : (b b' : Bench H) → meaning b'.host ≡ meaning b.host → b'.program ≡ b.program → b'.wiring ≡ b.wiring → SoundBench meaning b → SoundBench meaning b'
-  bench_kept b b' em ep ew s = record {
-    accepted = subst (λ (m : Meaning). Accepted m.sheet (loaded b')) (sym em) (subst (Accepted (meaning b.host).sheet) (sym (same_program b b' ep ew)) s.accepted);
-    rows = subst RowsOfEight (sym (same_program b b' ep ew)) s.rows;
-    wired = subst (λ (m : Meaning). WiredFor m.sheet b'.wiring) (sym em) (subst (WiredFor (meaning b.host).sheet) (sym ew) s.wired);
+  pub both_same : (b b' b'' : Bench H) → SameBench meaning b b' → SameBench meaning b' b'' → SameBench meaning b b''
+  both_same b b' b'' k l = record { host = l.host ∙ k.host; program = l.program ∙ k.program; wiring = l.wiring ∙ k.wiring }
+
+  pub same_program : (b b' : Bench H) → SameBench meaning b b' → loaded b' ≡ loaded b
+  same_program b b' k = ap (program_of b'.wiring) k.program ∙ ap (λ w. program_of w b.program) k.wiring
+
+  pub same_count : (b b' : Bench H) → SameBench meaning b b' → b'.program.listing.count ≡ b.program.listing.count
+  same_count b b' k = ap (λ (p : Program). p.listing.count) k.program
+
+  -- a bench that stays so stays sound
+  pub bench_kept : (b b' : Bench H) → SameBench meaning b b' → SoundBench meaning b → SoundBench meaning b'
+  bench_kept b b' k s = record {
+    accepted = subst (λ (m : Meaning). Accepted m.sheet (loaded b')) (sym k.host) (subst (Accepted (meaning b.host).sheet) (sym (same_program b b' k)) s.accepted);
+    rows = subst RowsOfEight (sym (same_program b b' k)) s.rows;
+    wired = subst (λ (m : Meaning). WiredFor m.sheet b'.wiring) (sym k.host) (subst (WiredFor (meaning b.host).sheet) (sym k.wiring) s.wired);
   }
 
   module _ {P : Type 0} (ports : H → Ports) (mark : P → Bool) (lawful : (h : H) → Lawful (meaning h)) (r : Run H P) (s : SoundRun meaning ports mark r) where
@@ -65,7 +82,7 @@ module _ {H : Type 0} (meaning : H → Meaning) where
         subst (Steady m p) (sym s.came_to)
         (bare_steady m p _ (steady (mark r.policy) m p s.begun s.calls begins s.chosen (ap (λ (x : State). x.stop) (sym s.came_to) ∙ e)))
 
-    module _ (c : RunCall) (r' : Run H P) (em : meaning r'.bench.host ≡ m) (ep : r'.bench.program ≡ r.bench.program) (ew : r'.bench.wiring ≡ r.bench.wiring)
+    module _ (c : RunCall) (r' : Run H P) (same : SameBench meaning r.bench r'.bench)
         (ek : mark r'.policy ≡ mark r.policy) (state : shown ports r' ≡ bare (leaves m p c (shown ports r))) (asked : Asked (Choice (mark r.policy)) m c (leaves m p c (shown ports r))) where
       abbrev reached : State
       reached = after m p s.calls (fresh p s.begun)
@@ -77,18 +94,18 @@ module _ {H : Type 0} (meaning : H → Meaning) where
           let v = s.begun in
           let m' = meaning r'.bench.host in
           let p' = loaded r'.bench in
-          let eq = same_program r.bench r'.bench ep ew in
+          let eq = same_program r.bench r'.bench same in
           let one : bare (leaves m p c (shown ports r)) ≡ bare (leaves m p c reached) = ap (λ x. bare (leaves m p c x)) s.came_to ∙ leaves_bare m p c reached in
           let chosen : ByPolicy (mark r.policy) m p calls (fresh p v) =
           chosen_more (Choice (mark r.policy)) m p before c (fresh p v) s.chosen (asked_same (Choice (mark r.policy)) m c (leaves m p c (shown ports r)) (leaves m p c reached) one asked) in
           record {
-            bench = bench_kept r.bench r'.bench em ep ew s.bench;
+            bench = bench_kept r.bench r'.bench same s.bench;
             begun = v;
-            long = subst (λ (x : Meaning). length v ≡ x.sheet.ports) (sym em) s.long;
+            long = subst (λ (x : Meaning). length v ≡ x.sheet.ports) (sym same.host) s.long;
             calls = calls;
-            chosen = subst (λ k. ByPolicy k m' p' calls (fresh p' v)) (sym ek) (subst (λ x. ByPolicy (mark r.policy) x p' calls (fresh p' v)) (sym em) (subst (λ q. ByPolicy (mark r.policy) m q calls (fresh q v)) (sym eq) chosen));
-            came_to = state ∙ one ∙ ap bare (sym (after_more m p before c (fresh p v))) ∙ ap (λ x. bare (after x p calls (fresh p v))) (sym em) ∙ ap (λ q. bare (after m' q calls (fresh q v))) (sym eq);
+            chosen = subst (λ k. ByPolicy k m' p' calls (fresh p' v)) (sym ek) (subst (λ x. ByPolicy (mark r.policy) x p' calls (fresh p' v)) (sym same.host) (subst (λ q. ByPolicy (mark r.policy) m q calls (fresh q v)) (sym eq) chosen));
+            came_to = state ∙ one ∙ ap bare (sym (after_more m p before c (fresh p v))) ∙ ap (λ x. bare (after x p calls (fresh p v))) (sym same.host) ∙ ap (λ q. bare (after m' q calls (fresh q v))) (sym eq);
           }
 
       pub follows : Follows meaning ports mark c r r'
-      follows = record { state = state; host = em; program = ep; wiring = ew; mark_stays = ek; chosen = asked; sound = sound_next }
+      follows = record { state = state; bench = same; mark_stays = ek; chosen = asked; sound = sound_next }

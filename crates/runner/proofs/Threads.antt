@@ -15,6 +15,9 @@ use Rattle.machine.specs.Runner.{touched, queue_after, Turn, performed, step, on
 use Rattle.machine.proofs.Queues.{over_push, over_append, due_split, due_count}
 use Rattle.machine.proofs.Ticks.{split_all}
 use Rattle.runner.specs.Turns.{Room, Touch, Inside, Roomy}
+use Rattle.runner.specs.declared.bench.Bench.{Bench}
+use Rattle.runner.specs.Sound.{loaded, SameBench}
+use Rattle.runner.proofs.Sounds.{same_program}
 
 -- an instruction stands in the log
 pub one_logged : (m : Meaning) (p : Contents) (a : ℕ) (s : State) → length (step m p a s).state.log ≡ length s.log + 1
@@ -67,8 +70,12 @@ step_queue m p n a s r e = go (touched m.sheet s.pending (instruction_at p a))
 abbrev pub Stepped : Meaning → Contents → ℕ → (List Event → State) → (List Event → State) → Option ℕ → Type 0
 Stepped m p a v v' o = (l : List Event) → record { state = v' (step m p a (v l)).state.log; next = o } ≡ step m p a (v l)
 
-pub moved : (p : Contents) (a : ℕ) (v v' : List Event → State) (o : Option ℕ) (m m' : Meaning) → m ≡ m' → Stepped m p a v v' o → Stepped m' p a v v' o
-moved p a v v' o m m' e = subst (λ x. Stepped x p a v v' o) e
+-- the same of a bench that is the same
+pub moved : {H : Type 0} (meaning : H → Meaning) (b b' : Bench H) → SameBench meaning b b' → (a : ℕ) (v v' : List Event → State) (o : Option ℕ)
+    → Stepped (meaning b'.host) (loaded b') a v v' o → Stepped (meaning b.host) (loaded b) a v v' o
+moved meaning b b' k a v v' o t =
+    subst (λ x. Stepped x (loaded b) a v v' o) k.host
+    (subst (λ q. Stepped (meaning b'.host) q a v v' o) (same_program meaning b b' k) t)
 
 pub queue_stepped : (m : Meaning) (p : Contents) (n a : ℕ) (v v' : List Event → State) (o : Option ℕ) → Stepped m p a v v' o
     → Ranged m.sheet (instruction_at p a) → Aimed n a (instruction_at p a) → Queued n (v []).queue (v' (step m p a (v [])).state.log).queue

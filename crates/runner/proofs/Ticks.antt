@@ -1,5 +1,5 @@
 -- A tick of the code, step by step, is a tick of the reference runner.
-use Rattle.std.proofs.Common.{◌≡◌, ℕ, ◌<◌, ◌≤◌, Bool, true, false, cond, eqb, List, [], ◌∷◌, map, length, get_or, take, ℤ, is_some, Some, None, Ok, Err, Option, sym, refl, ap, ◌∙◌, subst, arith, length-take}
+use Rattle.std.proofs.Common.{◌≡◌, ℕ, ◌<◌, ◌≤◌, Bool, true, false, cond, eqb, List, [], ◌∷◌, map, length, get_or, take, ℤ, is_some, Some, None, Ok, Err, Option, sym, refl, ap, ◌∙◌, subst, arith}
 use Rattle.std.proofs.lemmas.List.{get_or-take}
 use Rattle.std.proofs.lemmas.Bool.{cond-true, cond-false, eqb-true}
 use Rattle.ecode.specs.Wiring.{has}
@@ -8,25 +8,26 @@ use Rattle.ecode.specs.declared.sheet.Sheet.{Sheet}
 use Rattle.host.specs.Meaning.{Meaning}
 use Rattle.machine.specs.declared.binding.Binding.{Binding}
 use Rattle.machine.specs.declared.stop.Stop.{Stop}
-use Rattle.machine.specs.declared.fault.RunFault.TheVariants.{Readings, BudgetUsedUp, Touched}
+use Rattle.machine.specs.declared.stop.Stop.TheVariants as stop
+use Rattle.machine.specs.declared.fault.RunFault.{RunFault}
+use Rattle.machine.specs.declared.fault.RunFault.TheVariants.{Readings}
 use Rattle.machine.specs.State.{Ports, Job, Table, State, is_pending, budget}
 use Rattle.machine.specs.Runner.{one_more_used, charged, spent, exhausted, one_less_wait, kinds_of, opening, runs, closing, threads, tick_on, tick}
-use Rattle.machine.specs.Calls.{Tick, counts, sensor_count, if_going, leaves, unless_over, ran_or_stopped, tick_answer}
+use Rattle.machine.specs.Calls.{Tick, counts, sensor_count, if_going, leaves, fault_of, unless_over, ran_or_stopped, tick_answer}
 use Rattle.machine.proofs.Reached.{Busy, Steady}
 use Rattle.parts.specs.declared.data.TaskTable.{TaskTable}
 use Rattle.parts.specs.declared.data.Wiring.{Wiring}
 use Rattle.parts.specs.Shown.{no_slot, job, jobs, Chargeable}
-use Rattle.parts.specs.Wired.{sensed, WiredFor}
+use Rattle.parts.specs.Wired.{WiredFor}
 use Rattle.parts.proofs.Feeds.{sensors_many}
 use Rattle.runner.specs.declared.progress.Progress.{Progress}
 use Rattle.runner.specs.Standing.{standing}
-use Rattle.runner.specs.Turns.{OnlyTouch, Inside}
+use Rattle.runner.specs.Follows.{Leaves}
+use Rattle.runner.specs.Turns.{Inside}
 
 -- a wiring has as many sensors as a tick takes readings
-pub sensors_long : (s : Sheet) (w : Wiring) → WiredFor s w → w.sensors.len ≡ sensor_count (kinds_of s)
-sensors_long s w r =
-    let long : length (sensed w.sensors) ≡ w.sensors.len = simp length-take (omega arith) in
-    sym long ∙ ap length r.sensors ∙ sensors_many 0 (kinds_of s)
+pub sensors_long : (s : Sheet) (w : Wiring) → WiredFor s w → length w.sensors.items ≡ sensor_count (kinds_of s)
+sensors_long s w r = ap length r.sensors ∙ sensors_many 0 (kinds_of s)
 
 module _ (m : Meaning) (p : Contents) (rd : List ℤ) (s : State) (going : s.stop ≡ None) where
   -- refused for the number of its readings
@@ -50,7 +51,7 @@ module _ (m : Meaning) (p : Contents) (rd : List ℤ) (s : State) (going : s.sto
 
   -- a budget is used up
   pub used_up : (c : Option ℕ) (t : ℕ) → exhausted (budget p) slots s.running ≡ Some t
-      → tick m p rd c s ≡ record { ports = s.ports; queue = s.queue; pending = slots; running = s.running; stop = Some (record { number = 14; task = t; address = 0 }); log = [] }
+      → tick m p rd c s ≡ record { ports = s.ports; queue = s.queue; pending = slots; running = s.running; stop = Some (stop.BudgetUsedUp t); log = [] }
   used_up c t e = ap (tick_on m p rd c s slots) e
 
   -- none is
@@ -119,10 +120,16 @@ pub closed_going : (s : State) (c : Option ℕ) → s.stop ≡ None → closing 
 closed_going s c e = λ i. record { ports = s.ports; queue = s.queue; pending = s.pending; running = ap (λ o. runs o s.running c) e i; stop = s.stop; log = s.log }
 
 -- the answers
-pub touched_answer : (o : Option Stop) (x : Stop) (n : ℕ) (q : Option ℕ) → o ≡ Some x → OnlyTouch o → Err (Touched x.task) ≡ ran_or_stopped o n q
-touched_answer o x n q e f =
-    let fifteen : x.number ≡ 15 = subst OnlyTouch e f in
-    sym (ap (λ y. ran_or_stopped y n q) e ∙ ap (λ k. Err (cond (eqb k 14) (BudgetUsedUp x.task) (Touched x.task))) fifteen)
+pub stopped_answer : (o : Option Stop) (x : Stop) (n : ℕ) (q : Option ℕ) → o ≡ Some x → Err (fault_of x) ≡ ran_or_stopped o n q
+stopped_answer o x n q e = sym (ap (λ y. ran_or_stopped y n q) e)
+
+-- the refusal of a tick that stopped says nothing of what is left
+pub stop_leaves : {A : Type 0} (before then : A) (x : Stop) (fault : RunFault) → fault ≡ fault_of x → Leaves before then fault
+stop_leaves before then x fault e = subst (Leaves before then) (sym e) (go x)
+  where
+    go : (x : Stop) → Leaves before then (fault_of x)
+    go (stop.BudgetUsedUp t) = tt
+    go (stop.Touched t a) = tt
 
 pub ran_answer : (o : Option Stop) (n n' : ℕ) (q : Option ℕ) → o ≡ None → n ≡ n' → Ok (record { instructions = n; running = q }) ≡ ran_or_stopped o n' q
 ran_answer o n n' q e f = ap (λ k. Ok (record { instructions = k; running = q })) f ∙ sym (ap (λ y. ran_or_stopped y n' q) e)

@@ -12,7 +12,7 @@ use Rattle.machine.specs.declared.fault.RunFault.TheVariants.{Readings, NotRunni
 use Rattle.machine.specs.State.{Ports, bare}
 use Rattle.machine.specs.Calls.{RunCall, leaves, Asked}
 use Rattle.runner.specs.declared.run.Run.{Run}
-use Rattle.runner.specs.Sound.{loaded, shown, SoundRun}
+use Rattle.runner.specs.Sound.{loaded, shown, SameBench, SoundRun}
 
 -- the running task that the tick answers; a tick that was refused or stopped asked for no choice
 abbrev pub choice_in : Result Ticked RunFault → Option ℕ
@@ -23,9 +23,7 @@ choice_in (Err fault) = None
 -- policy, its choice is one that it may make; and the run is sound again
 pub record Follows {H P : Type 0} (meaning : H → Meaning) (ports : H → Ports) (mark : P → Bool) (call : RunCall) (before then : Run H P) : Type 0 where
   pub state : shown ports then ≡ bare (leaves (meaning before.bench.host) (loaded before.bench) call (shown ports before))
-  pub host : meaning then.bench.host ≡ meaning before.bench.host
-  pub program : then.bench.program ≡ before.bench.program
-  pub wiring : then.bench.wiring ≡ before.bench.wiring
+  pub bench : SameBench meaning before.bench then.bench
   pub mark_stays : mark then.policy ≡ mark before.policy
   pub chosen : Asked (Choice (mark before.policy)) (meaning before.bench.host) call (leaves (meaning before.bench.host) (loaded before.bench) call (shown ports before))
   pub sound : SoundRun meaning ports mark then

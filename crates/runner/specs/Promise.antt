@@ -2,12 +2,13 @@
 -- accepted, and every list of calls, taken or refused.
 --   AgreesWith         another run on a like host has the same driver ports
 --   PlaysAsPromised    all that is promised of a run and of the bench that comes back
-use Rattle.std.specs.Prelude.{◌≡◌, ℕ, Bool, true, List, ◌++◌, length, take, drop, None}
+use Rattle.std.specs.Prelude.{◌≡◌, ℕ, Bool, true, List, ◌++◌, length, take, drop, None, Result}
 use Rattle.ecode.specs.declared.port.PortKind.TheVariants.{Driver}
 use Rattle.ecode.specs.Sheets.{Port, kind}
 use Rattle.ecode.specs.Verdict.{Contents}
 use Rattle.host.specs.Meaning.{Meaning, reading}
 use Rattle.machine.specs.declared.answer.Answer.{Answer}
+use Rattle.machine.specs.declared.fault.RunFault.{RunFault}
 use Rattle.machine.specs.State.{Ports, fresh}
 use Rattle.machine.specs.Calls.{RunCall, after, answers, ticks_of, ByPolicy, GivenBack}
 use Rattle.machine.specs.Windows.{NoneUsedUp, WindowsKept}
@@ -30,7 +31,7 @@ AgreesWith m p v made = (m' : Meaning) (v' : Ports) (others : List RunCall) → 
 -- of a bench with the host m, the program p and the ports v, played under a policy with this mark: the calls, the places for answers
 -- before and after, the host, program and ports of the bench that comes back, and the eight bytes. The first n calls of the run are
 -- written `take n (record_of calls new)`, so that what is said for every n is said at the begin and after every call
-pub record PlaysAsPromised (mark : Bool) (m : Meaning) (p : Contents) (v : Ports) (calls : List Call) (old new : List Answer) (m' : Meaning) (p' : Contents) (v' : Ports) (bytes : List ℕ) : Type 0 where
+pub record PlaysAsPromised (mark : Bool) (m : Meaning) (p : Contents) (v : Ports) (calls : List Call) (old new : List (Result Answer RunFault)) (m' : Meaning) (p' : Contents) (v' : Ports) (bytes : List ℕ) : Type 0 where
   -- IT FOLLOWS THE REFERENCE RUNNER. Every answer is the one that the reference runner gives, fed the calls and the choices that
   -- show in the answers; places that no call was made for are as they were
   pub answers_follow : new ≡ answers m p (record_of calls new) (fresh p v) ++ drop (length calls) old

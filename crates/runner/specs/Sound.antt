@@ -1,17 +1,20 @@
 -- When a bench and a run are sound: what every call asks, and every call that makes or keeps one promises.
 --   loaded        the program of a bench, as the reference runner has it
 --   SoundBench    the program of a bench is accepted for its host's sheet, and its rows have eight cells
+--   SameBench     a bench keeps its program and wiring, and its host what it does; the host's ports may change
+--   working       the state of a bench at work, with a log
 --   shown         the state that a run shows: all of it but the log of its last tick, which no code holds
 --   SoundRun      some list of calls, with choices that its policy may make, brings a fresh run to what the run shows
 use Rattle.std.specs.Prelude.{◌≡◌, Bool, List, [], length}
 use Rattle.ecode.specs.Verdict.{Contents}
 use Rattle.ecode.specs.Accepted.{Accepted}
 use Rattle.host.specs.Meaning.{Meaning}
-use Rattle.machine.specs.State.{Ports, State, bare, fresh}
+use Rattle.machine.specs.State.{Ports, Event, State, bare, fresh}
 use Rattle.machine.specs.Begins.{RowsOfEight}
 use Rattle.machine.specs.Calls.{RunCall, after, ByPolicy}
 use Rattle.parts.specs.Wired.{WiredFor}
 use Rattle.runner.specs.declared.bench.Bench.{Bench}
+use Rattle.runner.specs.declared.progress.Progress.{Progress}
 use Rattle.runner.specs.declared.run.Run.{Run}
 use Rattle.runner.specs.Standing.{program_of, standing}
 
@@ -25,9 +28,19 @@ pub record SoundBench {H : Type 0} (meaning : H → Meaning) (b : Bench H) : Typ
   pub rows : RowsOfEight (loaded b)
   pub wired : WiredFor (meaning b.host).sheet b.wiring
 
+-- the ports of its host aside, the bench is as it was
+pub record SameBench {H : Type 0} (meaning : H → Meaning) (before then : Bench H) : Type 0 where
+  pub host : meaning then.host ≡ meaning before.host
+  pub program : then.program ≡ before.program
+  pub wiring : then.wiring ≡ before.wiring
+
+-- the ports of the bench's host, and what the run has come to
+abbrev pub working : {H : Type 0} → (H → Ports) → Bench H → List Event → Progress → State
+working ports b log g = standing b.wiring (ports b.host) log g
+
 -- with the log left empty
 abbrev pub shown : {H P : Type 0} → (H → Ports) → Run H P → State
-shown ports r = standing r.bench.wiring (ports r.bench.host) [] r.progress
+shown ports r = working ports r.bench [] r.progress
 
 -- the bench inside is sound; the run began with some ports, and these calls were made since
 pub record SoundRun {H P : Type 0} (meaning : H → Meaning) (ports : H → Ports) (mark : P → Bool) (r : Run H P) : Type 0 where

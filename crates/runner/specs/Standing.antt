@@ -6,6 +6,7 @@ use Rattle.std.specs.Prelude.{ℕ, List, Some, None, Option}
 use Rattle.ecode.specs.declared.code.Program.{Program}
 use Rattle.ecode.specs.Verdict.{Contents, contents}
 use Rattle.machine.specs.declared.stop.Stop.{Stop}
+use Rattle.machine.specs.declared.stop.Stop.TheVariants.{BudgetUsedUp}
 use Rattle.machine.specs.State.{Ports, Event, State}
 use Rattle.machine.specs.Runner.{charged}
 use Rattle.parts.specs.declared.data.Wiring.{Wiring}
@@ -23,7 +24,7 @@ standing w v log g = record { ports = v; queue = queued g.queue; pending = jobs 
 -- the stop for a budget that is used up, if one is
 abbrev pub stop_for : Option ℕ → Option Stop → Option Stop
 stop_for None old = old
-stop_for (Some t) old = Some (record { number = 14; task = t; address = 0 })
+stop_for (Some t) old = Some (BudgetUsedUp t)
 
 -- one slot more is used by the running task; where that uses up its budget, the run stops
 abbrev pub after_charge : Option ℕ → State → State

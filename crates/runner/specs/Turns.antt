@@ -10,6 +10,7 @@ use Rattle.ecode.specs.declared.code.Instruction.TheVariants.{Call, Release, Fut
 use Rattle.std.specs.List.{AllByRecursion}
 use Rattle.machine.specs.declared.binding.Binding.{Binding}
 use Rattle.machine.specs.declared.stop.Stop.{Stop}
+use Rattle.machine.specs.Refusals.{stop_number}
 use Rattle.machine.specs.State.{Event}
 use Rattle.runner.specs.declared.progress.Flow.{Flow}
 use Rattle.runner.specs.declared.progress.Flow.TheVariants.{To, Returned, Stopped}
@@ -32,7 +33,7 @@ next_of Stopped = None
 -- a stop with the number 15
 abbrev pub Touch : Option Stop → Type 0
 Touch None = ⊥
-Touch (Some x) = x.number ≡ 15
+Touch (Some x) = stop_number x ≡ 15
 
 -- the run has stopped exactly where the flow says so
 abbrev pub Tells : Flow → Option Stop → Option Stop → Type 0
@@ -49,7 +50,7 @@ Upward n a Stopped = Unit {0}
 -- no stop but for a touch
 abbrev pub OnlyTouch : Option Stop → Type 0
 OnlyTouch None = Unit {0}
-OnlyTouch (Some x) = x.number ≡ 15
+OnlyTouch (Some x) = stop_number x ≡ 15
 
 -- the bindings' addresses lie in a program of n instructions
 abbrev pub Inside : ℕ → List Binding → Type 0

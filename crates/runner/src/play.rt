@@ -11,40 +11,33 @@ use crate::call::Call;
 use crate::run::Run;
 use host::host::Host;
 use machine::answer::Answer;
+use machine::fault::RunFault;
 use policy::Policy;
 
 impl<H: Host, P: Policy> Run<H, P> {
     // Makes one call.
-    pub fn make(&mut self, call: &Call) -> Answer
+    pub fn make(&mut self, call: &Call) -> Result<Answer, RunFault>
         requires { SoundRun H.Host.meaning H.Host.ports P.Policy.mark self.old }
         ensures answer { result ≡ answer (H.Host.meaning self.old.bench.host) (loaded self.old.bench) (told call.now result) (shown H.Host.ports self.old) }
         ensures follows { Follows H.Host.meaning H.Host.ports P.Policy.mark (told call.now result) self.old self.new }
     {
         match call {
-            Call::Tick(readings) => match self.tick(readings) {
-                Ok(ticked) => Answer::Ran(ticked),
-                Err(fault) => Answer::Refused(fault),
-            },
-            Call::Done(task) => match self.done(*task) {
-                Ok(()) => Answer::Ended,
-                Err(fault) => Answer::Refused(fault),
-            },
-            Call::State => Answer::StoppedBy(self.state()),
-            Call::Port(port) => match self.port(*port) {
-                Ok(value) => Answer::Value(value),
-                Err(fault) => Answer::Refused(fault),
-            },
+            Call::Tick(readings) => self.tick(readings).map(Answer::Ran),
+            Call::Done(task) => self.done(*task).map(|()| Answer::Ended),
+            Call::State => Ok(Answer::StoppedBy(self.state())),
+            Call::Port(port) => self.port(*port).map(Answer::Value),
         }
     }
 
     // Makes the calls in turn, as many as there are places for answers, and puts each answer into its place.
-    pub fn make_all(&mut self, calls: &[Call], answers: &mut [Answer])
+    pub fn make_all(&mut self, calls: &[Call], answers: &mut [Result<Answer, RunFault>])
         requires { SoundRun H.Host.meaning H.Host.ports P.Policy.mark self.old }
         ensures { PlaysOn H.Host.meaning H.Host.ports P.Policy.mark calls.now answers.old answers.new self.old self.new }
     {
         let n = calls.len().min(answers.len());
-        for i in 0..n {
-            answers[i] = self.make(&calls[i]);
+        // By index: of what is written through a `zip` with `iter_mut` a proof knows the length alone.
+        for (i, call) in calls[..n].iter().enumerate() {
+            answers[i] = self.make(call);
         }
     }
 }
@@ -56,7 +49,7 @@ impl<H: Host> Bench<H> {
         self,
         policy: P,
         calls: &[Call],
-        answers: &mut [Answer],
+        answers: &mut [Result<Answer, RunFault>],
         pending: &mut [u8; 8],
     ) -> Bench<H>
         requires { SoundBench H.Host.meaning self }

@@ -4,13 +4,13 @@ ghost use Rattle.machine.specs.State.{Ports, Event, is_pending};
 ghost use Rattle.machine.specs.Runner.{charged, exhausted, opening};
 ghost use Rattle.parts.specs.declared.data.Wiring.{Wiring};
 ghost use Rattle.parts.specs.Shown.{jobs, Chargeable};
-ghost use Rattle.parts.specs.Wired.{WiredFor};
 ghost use Rattle.runner.specs.Standing.{standing, after_charge};
+ghost use Rattle.runner.specs.Sound.{SoundBench, SameBench, working};
 
+use crate::bench::Bench;
 use crate::progress::Progress;
 use host::host::Host;
 use machine::stop::Stop;
-use parts::data::Wiring;
 use parts::feed::feed;
 
 impl Progress {
@@ -23,26 +23,21 @@ impl Progress {
         let running = self.running;
         let used_up = self.table.charge(running, budgets);
         if let Some(task) = used_up {
-            self.stop = Some(Stop {
-                number: 14,
-                task,
-                address: 0,
-            });
+            self.stop = Some(Stop::BudgetUsedUp { task });
         }
         used_up
     }
 
     // Every pending task has one tick less left, the readings are put, and every wait falls by 1.
-    pub fn open<H: Host>(&mut self, host: &mut H, wiring: &Wiring, readings: &[i32])
-        requires wired { WiredFor (H.Host.meaning host.old).sheet wiring.now }
+    pub fn open<H: Host>(&mut self, bench: &mut Bench<H>, readings: &[i32])
+        requires bench { SoundBench H.Host.meaning bench.old }
         requires going { self.old.stop ≡ None }
-        requires enough { length readings.now ≡ wiring.now.sensors.len }
-        requires below { (t : ℕ) → wiring.now.tasks ≤ t → is_pending (jobs wiring.now.ports self.old.table) t ≡ false }
-        ensures after { (l : List Event) → standing wiring.now (H.Host.ports host.new) [] self.new ≡ opening (H.Host.meaning host.old) readings.now (standing wiring.now (H.Host.ports host.old) l self.old) (jobs wiring.now.ports self.old.table) }
-        ensures same { H.Host.meaning host.new ≡ H.Host.meaning host.old }
+        requires below { (t : ℕ) → bench.old.wiring.tasks ≤ t → is_pending (jobs bench.old.wiring.ports self.old.table) t ≡ false }
+        ensures after { (l : List Event) → working H.Host.ports bench.new [] self.new ≡ opening (H.Host.meaning bench.old.host) readings.now (working H.Host.ports bench.old l self.old) (jobs bench.old.wiring.ports self.old.table) }
+        ensures same { SameBench H.Host.meaning bench.old bench.new }
     {
-        self.table.count_down(wiring.tasks);
-        feed(host, &wiring.sensors, readings);
+        self.table.count_down(bench.wiring.tasks);
+        feed(&mut bench.host, &bench.wiring.sensors, readings);
         self.queue.count_down();
     }
 }

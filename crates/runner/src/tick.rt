@@ -22,27 +22,22 @@ impl<H: Host, P: Policy> Run<H, P> {
         ensures unasked { Unasked self.old.policy self.new.policy result }
     {
         if let Some(stop) = self.progress.stop {
-            return Err(RunFault::AfterStop { task: stop.task });
+            return Err(RunFault::AfterStop { task: stop.task() });
         }
         let given = readings.len();
-        if given != self.bench.wiring.sensors.len {
+        if given != self.bench.wiring.sensors.len() {
             return Err(RunFault::Readings { given });
         }
         if let Some(task) = self.progress.charge(&self.bench.program.budgets) {
             return Err(RunFault::BudgetUsedUp { task });
         }
-        self.progress
-            .open(&mut self.bench.host, &self.bench.wiring, readings);
-        let instructions = self.progress.run_due(
-            &mut self.bench.host,
-            &self.bench.program,
-            &self.bench.wiring,
-        );
+        self.progress.open(&mut self.bench, readings);
+        let instructions = self.progress.run_due(&mut self.bench);
         if let Some(stop) = self.progress.stop {
-            return Err(RunFault::Touched { task: stop.task });
+            return Err(RunFault::from(stop));
         }
         let pending = self.progress.table.list(self.bench.wiring.tasks);
-        let running = self.policy.choose(&pending.items[0..pending.len]);
+        let running = self.policy.choose(&pending);
         self.progress.running = running;
         Ok(Ticked {
             instructions,
@@ -59,11 +54,10 @@ impl<H: Host, P: Policy> Run<H, P> {
         ensures policy { self.new.policy ≡ self.old.policy }
     {
         if let Some(stop) = self.progress.stop {
-            return Err(RunFault::AfterStop { task: stop.task });
+            return Err(RunFault::AfterStop { task: stop.task() });
         }
-        match self.progress.running {
-            Some(running) if running == task => {}
-            _ => return Err(RunFault::NotRunning { task }),
+        if self.progress.running != Some(task) {
+            return Err(RunFault::NotRunning { task });
         }
         self.bench.host.work(task);
         self.progress.table.clear(task);

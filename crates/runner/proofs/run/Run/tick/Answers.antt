@@ -1,21 +1,17 @@
 -- Phase by phase.
-use Rattle.std.proofs.Common.{◌≡◌, false, [], length, None, sym, refl, ap, ◌∙◌, subst}
+use Rattle.std.proofs.Common.{◌≡◌, false, [], length, None, Err, sym, refl, ap, ◌∙◌, subst}
 use Rattle.std.proofs.lemmas.Bool.{ne_eqb, both_ways}
-use Rattle.ecode.specs.Accepted.{Bounded}
-use Rattle.host.specs.Meaning.{Meaning}
 use Rattle.machine.specs.State.{State, bare}
 use Rattle.machine.specs.Runner.{kinds_of}
 use Rattle.machine.specs.Calls.{Tick, counts, sensor_count, leaves}
-use Rattle.parts.specs.Wired.{WiredFor}
-use Rattle.runner.specs.Standing.{standing}
-use Rattle.runner.specs.Sound.{loaded, shown}
-use Rattle.runner.proofs.Sounds.{steady_run, follows}
-use Rattle.runner.proofs.Ticks.{sensors_long, refused, refuses, chargeable}
+use Rattle.runner.specs.Sound.{loaded, working, shown}
+use Rattle.runner.proofs.Sounds.{unchanged, both_same, bench_kept, steady_run, follows}
+use Rattle.runner.proofs.Ticks.{sensors_long, refused, refuses, chargeable, stop_leaves}
 use Rattle.runner.proofs.Phases.{over_state, over_answer, over_asked, still_going, still_below, no_stop, queue_inside, whole_is, room, stop_state, stop_answer, stop_asked, ran_state, ran_answer_is, ran_asked}
 use Rattle.runner.proofs.run.Run.tick.Goals as goal
 
-pub returns-then-given-self : goal.returns-then-given-self
-returns-then-given-self g c =
+pub returns-then-given-len : goal.returns-then-given-len
+returns-then-given-len g c =
     let M = g.H.Host.meaning in
     let ports = g.H.Host.ports in
     let mark = g.P.Policy.mark in
@@ -28,10 +24,10 @@ returns-then-given-self g c =
     let m = M r.bench.host in
     let p = loaded r.bench in
     let s = shown ports r in
-    let off : counts m rd ≡ false = ne_eqb (length rd) (sensor_count (kinds_of m.sheet)) (λ e. c.if-given-self.true (e ∙ sym (sensors_long m.sheet w c.requires.bench.wired))) in
+    let off : counts m rd ≡ false = ne_eqb (length rd) (sensor_count (kinds_of m.sheet)) (λ e. c.if-given-len.true (e ∙ sym (sensors_long m.sheet w c.requires.bench.wired) ∙ sym c.len.ensures.value)) in
     record {
       answer = sym (refuses m p rd s none off (leaves m p (Tick rd None) s));
-      follows = follows M ports mark law r c.requires (Tick rd None) r refl refl refl refl (sym (ap bare (refused m p rd s none off None))) (λ k e. absurd (both_ways (counts m rd) off k));
+      follows = follows M ports mark law r c.requires (Tick rd None) r (unchanged M r.bench) refl (sym (ap bare (refused m p rd s none off None))) (λ k e. absurd (both_ways (counts m rd) off k));
       untouched = refl;
       unasked = refl;
     }
@@ -60,7 +56,7 @@ returns-in-Some-charge g c =
     let rd = c.args.readings.now in
     let v = ports r.bench.host in
     let none = c.in_default.is in
-    let all = c.if-given-self.false in
+    let all = c.if-given-len.false ∙ c.len.ensures.value in
     let t = c.in-Some-charge.task in
     let g₀ = c.charge.new.self in
     let es = c.in-Some-charge.ensures in
@@ -68,7 +64,7 @@ returns-in-Some-charge g c =
     let left = es.after w v [] in
     record {
       answer = over_answer M ports mark law r c.requires rd none all t g₀ said left;
-      follows = follows M ports mark law r c.requires (Tick rd None) _ refl refl refl refl (over_state M ports mark law r c.requires rd none all t g₀ said left) (over_asked M ports mark law r c.requires rd none all t g₀ said left);
+      follows = follows M ports mark law r c.requires (Tick rd None) _ (unchanged M r.bench) refl (over_state M ports mark law r c.requires rd none all t g₀ said left) (over_asked M ports mark law r c.requires rd none all t g₀ said left);
       untouched = tt;
       unasked = refl;
     }
@@ -84,15 +80,14 @@ open-requires g c =
     let rd = c.args.readings.now in
     let v = ports r.bench.host in
     let none = c.in_default.is in
-    let all = c.if-given-self.false in
+    let all = c.if-given-len.false ∙ c.len.ensures.value in
     let g₀ = c.charge.new.self in
     let es = c.in_default-charge.ensures in
     let said = es.answer w.ports in
     let left = es.after w v [] in
     record {
-      wired = c.requires.bench.wired;
+      bench = c.requires.bench;
       going = still_going M ports mark law r c.requires rd none all g₀ said left;
-      enough = all;
       below = still_below M ports mark law r c.requires rd none all g₀ said left;
     }
 
@@ -107,22 +102,21 @@ run_due-instructions-requires g c =
     let rd = c.args.readings.now in
     let v = ports r.bench.host in
     let none = c.in_default.is in
-    let all = c.if-given-self.false in
+    let all = c.if-given-len.false ∙ c.len.ensures.value in
     let g₀ = c.charge.new.self in
     let es = c.in_default-charge.ensures in
     let said = es.answer w.ports in
     let left = es.after w v [] in
-    let h₁ = c.open.new.host in
+    let b₁ = c.open.new.bench in
     let g₁ = c.open.new.self in
     let same = c.open.ensures.same in
     let opens = c.open.ensures.after [] in
     let p = loaded r.bench in
     record {
-      wired = subst (λ (x : Meaning). WiredFor x.sheet w) (sym same) c.requires.bench.wired;
-      bounds = subst (λ (x : Meaning). Bounded x.sheet p.entry p.lines) (sym same) c.requires.bench.accepted.bounds;
-      going = no_stop M ports mark law r c.requires rd none all g₀ said left h₁ g₁ same opens;
-      inside = queue_inside M ports mark law r c.requires rd none all g₀ said left h₁ g₁ same opens;
-      room = room M ports mark law r c.requires rd none all g₀ said left h₁ g₁ same opens;
+      bench = bench_kept M r.bench c.open.new.bench same c.requires.bench;
+      going = no_stop M ports mark law r c.requires rd none all g₀ said left b₁ g₁ same opens;
+      inside = queue_inside M ports mark law r c.requires rd none all g₀ said left b₁ g₁ same opens;
+      room = room M ports mark law r c.requires rd none all g₀ said left b₁ g₁ same opens;
     }
 
 pub returns-in-Some-stop : goal.returns-in-Some-stop
@@ -136,31 +130,30 @@ returns-in-Some-stop g c =
     let rd = c.args.readings.now in
     let v = ports r.bench.host in
     let none = c.in_default.is in
-    let all = c.if-given-self.false in
+    let all = c.if-given-len.false ∙ c.len.ensures.value in
     let g₀ = c.charge.new.self in
     let es = c.in_default-charge.ensures in
     let said = es.answer w.ports in
     let left = es.after w v [] in
-    let h₁ = c.open.new.host in
+    let b₁ = c.open.new.bench in
     let g₁ = c.open.new.self in
     let same = c.open.ensures.same in
     let opens = c.open.ensures.after [] in
-    let h₂ = c.run_due-instructions.new.host in
+    let b₂ = c.run_due-instructions.new.bench in
     let g₂ = c.run_due-instructions.new.self in
-    let is = whole_is M ports mark law r c.requires rd none all g₀ said left h₁ g₁ same opens in
-    let came = subst (λ (x : State). standing w (ports h₂) x.log g₂ ≡ x) is c.run_due-instructions.ensures.after in
+    let is = whole_is M ports mark law r c.requires rd none all g₀ said left b₁ g₁ same opens in
+    let came = subst (λ (x : State). working ports b₂ x.log g₂ ≡ x) is c.run_due-instructions.ensures.after in
     let counted = c.run_due-instructions.ensures.answer ∙ ap (λ (x : State). length x.log) is in
-    let kept = c.run_due-instructions.ensures.same ∙ same in
+    let kept = both_same M r.bench b₁ b₂ same c.run_due-instructions.ensures.same in
     let x = c.in-Some-stop.stop in
     let n = c.run_due-instructions.result in
     let stopped = c.in-Some-stop.is in
-    let touch = c.run_due-instructions.ensures.touch in
     record {
-      answer = stop_answer M ports mark law r c.requires rd none all g₀ said left h₁ g₁ same opens h₂ g₂ n came counted x stopped touch;
-      follows = follows M ports mark law r c.requires (Tick rd None) _ kept refl refl refl
-          (stop_state M ports mark law r c.requires rd none all g₀ said left h₁ g₁ same opens h₂ g₂ n came counted x stopped touch)
-          (stop_asked M ports mark law r c.requires rd none all g₀ said left h₁ g₁ same opens h₂ g₂ n came counted x stopped touch);
-      untouched = tt;
+      answer = ap Err c.from.ensures ∙ stop_answer M ports mark law r c.requires rd none all g₀ said left b₁ g₁ same opens b₂ g₂ n came counted x stopped;
+      follows = follows M ports mark law r c.requires (Tick rd None) _ kept refl
+          (stop_state M ports mark law r c.requires rd none all g₀ said left b₁ g₁ same opens b₂ g₂ n came counted x stopped)
+          (stop_asked M ports mark law r c.requires rd none all g₀ said left b₁ g₁ same opens b₂ g₂ n came counted x stopped);
+      untouched = stop_leaves _ _ x c.from.result c.from.ensures;
       unasked = refl;
     }
 
@@ -175,30 +168,30 @@ returns g c =
     let rd = c.args.readings.now in
     let v = ports r.bench.host in
     let none = c.in_default.is in
-    let all = c.if-given-self.false in
+    let all = c.if-given-len.false ∙ c.len.ensures.value in
     let g₀ = c.charge.new.self in
     let es = c.in_default-charge.ensures in
     let said = es.answer w.ports in
     let left = es.after w v [] in
-    let h₁ = c.open.new.host in
+    let b₁ = c.open.new.bench in
     let g₁ = c.open.new.self in
     let same = c.open.ensures.same in
     let opens = c.open.ensures.after [] in
-    let h₂ = c.run_due-instructions.new.host in
+    let b₂ = c.run_due-instructions.new.bench in
     let g₂ = c.run_due-instructions.new.self in
-    let is = whole_is M ports mark law r c.requires rd none all g₀ said left h₁ g₁ same opens in
-    let came = subst (λ (x : State). standing w (ports h₂) x.log g₂ ≡ x) is c.run_due-instructions.ensures.after in
+    let is = whole_is M ports mark law r c.requires rd none all g₀ said left b₁ g₁ same opens in
+    let came = subst (λ (x : State). working ports b₂ x.log g₂ ≡ x) is c.run_due-instructions.ensures.after in
     let counted = c.run_due-instructions.ensures.answer ∙ ap (λ (x : State). length x.log) is in
-    let kept = c.run_due-instructions.ensures.same ∙ same in
+    let kept = both_same M r.bench b₁ b₂ same c.run_due-instructions.ensures.same in
     let o = c.choose-running.result in
     let n = c.run_due-instructions.result in
     let going = c.in_default-stop.is in
-    let list = c.list-pending.result in
+    let list = c.deref.result.now in
     record {
-      answer = ran_answer_is M ports mark law r c.requires rd none all g₀ said left h₁ g₁ same opens h₂ g₂ n came counted o going;
-      follows = follows M ports mark law r c.requires (Tick rd o) _ kept refl refl c.choose-running.ensures.same_mark
-          (ran_state M ports mark law r c.requires rd none all g₀ said left h₁ g₁ same opens h₂ g₂ n came counted o going)
-          (ran_asked M ports mark law r c.requires rd none all g₀ said left h₁ g₁ same opens h₂ g₂ n came counted o going list (c.list-pending.ensures w.ports) c.choose-running.ensures.choice);
+      answer = ran_answer_is M ports mark law r c.requires rd none all g₀ said left b₁ g₁ same opens b₂ g₂ n came counted o going;
+      follows = follows M ports mark law r c.requires (Tick rd o) _ kept c.choose-running.ensures.same_mark
+          (ran_state M ports mark law r c.requires rd none all g₀ said left b₁ g₁ same opens b₂ g₂ n came counted o going)
+          (ran_asked M ports mark law r c.requires rd none all g₀ said left b₁ g₁ same opens b₂ g₂ n came counted o going kept list (c.deref.ensures.0 ∙ c.list-pending.ensures b₂.wiring.ports) c.choose-running.ensures.choice);
       untouched = tt;
       unasked = tt;
     }
