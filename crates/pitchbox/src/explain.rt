@@ -48,7 +48,7 @@ fn write_load<W: fmt::Write>(
 
 impl fmt::Display for Explained<'_> {
     fn fmt<W: fmt::Write>(&self, f: &mut fmt::Formatter<W>) -> fmt::Result {
-        let heading = Heading(self.fault.refusal());
+        let heading = Heading(self.fault);
         writeln!(f, "{heading}")?;
         match self.fault {
             LoadFault::Code(CodeFault::Image(fault)) => {
