@@ -1,9 +1,10 @@
 // Carries out one command.
 use crate::command::{Mistake, Single};
 use crate::examine::examine;
+use crate::explain::Explained;
 use crate::files::{Unread, read_file};
 use crate::help::print_help;
-use crate::report::{print_accepted, print_refused};
+use crate::report::print_accepted;
 use host::pitch::sheet;
 use std::io;
 use thiserror::Error;
@@ -43,7 +44,13 @@ fn run_check<'a>(
             Ok(Outcome::Accepted)
         }
         Err(fault) => {
-            print_refused(rt, &sheet, image.as_slice(), budgets.as_slice(), fault)?;
+            let explained = Explained {
+                sheet: &sheet,
+                image: image.as_slice(),
+                budgets: budgets.as_slice(),
+                fault,
+            };
+            println!(rt; "{explained}")?;
             Ok(Outcome::Refused)
         }
     }
