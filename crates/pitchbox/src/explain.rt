@@ -49,25 +49,23 @@ impl fmt::Display for Explained<'_> {
         } = *self;
         writeln!(f, "{}", Heading(fault))?;
         match fault {
-            LoadFault::Code(CodeFault::Image(fault)) => write!(
-                f,
-                "{}",
-                BadImage {
+            LoadFault::Code(CodeFault::Image(fault)) => {
+                let bad = BadImage {
                     sheet,
                     image,
                     fault,
-                }
-            ),
+                };
+                write!(f, "{bad}")
+            }
             LoadFault::Code(CodeFault::Typing { address }) => self.write_typing(f, address),
-            LoadFault::Budget { task } => write!(
-                f,
-                "{}",
-                BadBudget {
+            LoadFault::Budget { task } => {
+                let bad = BadBudget {
                     sheet,
                     budgets,
                     task,
-                }
-            ),
+                };
+                write!(f, "{bad}")
+            }
             LoadFault::Overload { task } => self.write_overload(f, task),
         }
     }

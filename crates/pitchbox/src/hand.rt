@@ -90,10 +90,7 @@ fn named_stop<'a>(words: &[&'a str]) -> Result<Stop, HandMistake<'a>> {
 
 fn fresh<'a>(heap: Global, rest: &[&'a str]) -> Result<Vec<Stop>, HandMistake<'a>> {
     match rest {
-        ["pitch", names @ ..] => names
-            .chunks(4)
-            .map(|words| named_stop(words))
-            .try_collect(heap),
+        ["pitch", names @ ..] => names.chunks(4).map(named_stop).try_collect(heap),
         [word, ..] => Err(HandMistake::NoDrive(*word)),
         [] => Err(HandMistake::Wants(FRESH)),
     }

@@ -1,7 +1,7 @@
 // What is wrong with an image: the bytes behind the numbers 1 to 8.
-use crate::layout::{Astray, Pair, Record, Trailer, records, start_of};
+use crate::layout::{Counts, Pair, Record, Trailer, records, start_of};
 use crate::names::{Counted, Part};
-use crate::opcode::Opcode;
+use crate::opcode::{Astray, Opcode};
 use ecode::fault::ImageFault;
 use ecode::sheet::Sheet;
 use std::fmt;
@@ -29,21 +29,63 @@ fn length_rule(told: usize, before: usize) -> &'static str {
     }
 }
 
-// How many tasks, drivers and conditions there are.
-#[derive(Clone, Copy)]
-struct Counts {
-    tasks: u8,
-    drivers: u8,
-    conditions: u8,
+fn write_ending<W: fmt::Write>(
+    f: &mut fmt::Formatter<W>,
+    trailer: Trailer,
+    at: usize,
+) -> fmt::Result {
+    let Trailer { form, mark, .. } = trailer;
+    let last = at.saturating_add(1);
+    writeln!(f, "  The image ends in the bytes {form:02X} {mark:02X}.")?;
+    writeln!(f, "  It must end in 01 E5, the form and the mark.")?;
+    if form == 1 {
+        write!(f, "  Look at byte {last}, the mark.")
+    } else if mark == 0xe5 {
+        write!(f, "  Look at byte {at}, the form.")
+    } else {
+        write!(
+            f,
+            "  Look at bytes {at} and {last}: the file may be no image, or not end there."
+        )
+    }
 }
 
-impl fmt::Display for Counts {
-    fn fmt<W: fmt::Write>(&self, f: &mut fmt::Formatter<W>) -> fmt::Result {
-        let tasks = Counted(usize::from(self.tasks), "task");
-        let drivers = Counted(usize::from(self.drivers), "driver");
-        let conditions = Counted(usize::from(self.conditions), "condition");
-        write!(f, "{tasks}, {drivers} and {conditions}")
-    }
+fn write_length<W: fmt::Write>(
+    f: &mut fmt::Formatter<W>,
+    trailer: Trailer,
+    before: usize,
+) -> fmt::Result {
+    let told = usize::from(trailer.length);
+    let low = before.saturating_add(1);
+    let rule = length_rule(told, before);
+    writeln!(
+        f,
+        "  The trailer tells {told} bytes of records, and {before} stand before it."
+    )?;
+    writeln!(f, "  {rule}.")?;
+    write!(
+        f,
+        "  Look at bytes {before} and {low}, the length, and at the size of the file."
+    )
+}
+
+// The first pair of a record's row that says nothing of its task.
+fn bad_pair(record: Record<'_>, tasks: u8) -> Option<Pair> {
+    (0..8u8)
+        .zip(record.row.as_chunks::<2>().0)
+        .map(|(task, &[consumed, remaining])| Pair {
+            task,
+            consumed,
+            remaining,
+        })
+        .find(|pair| !pair.fits(tasks))
+}
+
+// Why an address that an instruction goes to is no good, with its opcode and the address that it names.
+fn find_astray(record: Record<'_>, address: u16, count: usize) -> Option<(Opcode, u8, Astray)> {
+    let opcode = Opcode::try_from(record.opcode).ok()?;
+    let astray = opcode.check_target(record.y, address, count).err()?;
+    Some((opcode, record.y, astray))
 }
 
 impl BadImage<'_> {
@@ -59,64 +101,14 @@ impl BadImage<'_> {
         )
     }
 
-    fn write_ending<W: fmt::Write>(
-        &self,
-        f: &mut fmt::Formatter<W>,
-        trailer: Trailer,
-        at: usize,
-    ) -> fmt::Result {
-        let Trailer { form, mark, .. } = trailer;
-        let last = at.saturating_add(1);
-        writeln!(f, "  The image ends in the bytes {form:02X} {mark:02X}.")?;
-        writeln!(f, "  It must end in 01 E5, the form and the mark.")?;
-        if form == 1 {
-            write!(f, "  Look at byte {last}, the mark.")
-        } else if mark == 0xe5 {
-            write!(f, "  Look at byte {at}, the form.")
-        } else {
-            write!(
-                f,
-                "  Look at bytes {at} and {last}: the file may be no image, or not end there."
-            )
-        }
-    }
-
-    fn write_length<W: fmt::Write>(
-        &self,
-        f: &mut fmt::Formatter<W>,
-        trailer: Trailer,
-        before: usize,
-    ) -> fmt::Result {
-        let told = usize::from(trailer.length);
-        let low = before.saturating_add(1);
-        let rule = length_rule(told, before);
-        writeln!(
-            f,
-            "  The trailer tells {told} bytes of records, and {before} stand before it."
-        )?;
-        writeln!(f, "  {rule}.")?;
-        write!(
-            f,
-            "  Look at bytes {before} and {low}, the length, and at the size of the file."
-        )
-    }
-
     fn write_counts<W: fmt::Write>(
         &self,
         f: &mut fmt::Formatter<W>,
         trailer: Trailer,
         at: usize,
     ) -> fmt::Result {
-        let told = Counts {
-            tasks: trailer.tasks,
-            drivers: trailer.drivers,
-            conditions: trailer.conditions,
-        };
-        let own = Counts {
-            tasks: self.sheet.tasks,
-            drivers: self.sheet.drivers,
-            conditions: self.sheet.conditions,
-        };
+        let told = trailer.counts;
+        let own = Counts::from(self.sheet);
         let last = at.saturating_add(2);
         writeln!(f, "  The trailer tells of {told}.")?;
         writeln!(f, "  This drive has {own}.")?;
@@ -156,11 +148,12 @@ impl BadImage<'_> {
             z,
             ..
         } = record;
-        let name = Opcode::try_from(opcode).map_or("unknown", |known| known.name());
-        writeln!(
-            f,
-            "  The record has opcode {opcode} ({name}) and operands {x} {y} {z}."
-        )?;
+        write!(f, "  The record has opcode {opcode} (")?;
+        match Opcode::try_from(opcode) {
+            Ok(known) => write!(f, "{known}")?,
+            Err(unknown) => write!(f, "{unknown}")?,
+        }
+        writeln!(f, ") and operands {x} {y} {z}.")?;
         let Err(misfit) = record.check_operation(self.sheet) else {
             return write!(f, "  Look at this record.");
         };
@@ -170,8 +163,8 @@ impl BadImage<'_> {
 
     fn write_pair<W: fmt::Write>(&self, f: &mut fmt::Formatter<W>, address: u16) -> fmt::Result {
         let tasks = self.sheet.tasks;
-        let Some(pair) = Record::at(self.image, address).and_then(|record| record.bad_pair(tasks))
-        else {
+        let record = Record::at(self.image, address);
+        let Some(pair) = record.and_then(|record| bad_pair(record, tasks)) else {
             return write!(f, "  Look at the row of this record.");
         };
         let Pair {
@@ -205,9 +198,9 @@ impl BadImage<'_> {
 
     fn write_target<W: fmt::Write>(&self, f: &mut fmt::Formatter<W>, address: u16) -> fmt::Result {
         let count = records(self.image);
-        let Some((opcode, to, astray)) = Record::at(self.image, address).and_then(
-            |record| record.find_astray(address, count),
-        ) else {
+        let record = Record::at(self.image, address);
+        let found = record.and_then(|record| find_astray(record, address, count));
+        let Some((opcode, to, astray)) = found else {
             return write!(f, "  Look at this record and the address that it names.");
         };
         let last = count.saturating_sub(1);
@@ -245,8 +238,8 @@ impl fmt::Display for BadImage<'_> {
         };
         match self.fault {
             ImageFault::TooShort => self.write_short(f),
-            ImageFault::FormOrMark { place } => self.write_ending(f, trailer, place),
-            ImageFault::RecordLength { place } => self.write_length(f, trailer, place),
+            ImageFault::FormOrMark { place } => write_ending(f, trailer, place),
+            ImageFault::RecordLength { place } => write_length(f, trailer, place),
             ImageFault::Counts { place } => self.write_counts(f, trailer, place),
             ImageFault::Entry { place } => self.write_entry(f, trailer, place),
             ImageFault::Operation { address } => self.write_operation(f, address),

@@ -1,21 +1,49 @@
 // The trailer and the records of an image, with their bytes by name, and the rules that a record keeps.
-ghost use Rattle.std.specs.Prelude.{◌≡◌, ◌+◌, ◌*◌, ◌<◌, ◌≤◌, length, MatchOption, is_ok, is_some, ◌==◌};
+ghost use Rattle.std.specs.Prelude.{◌≡◌, ◌+◌, ◌-◌, ◌*◌, ◌/◌, ◌<◌, length, MatchOption, is_ok, is_some, ◌==◌};
 ghost use Rattle.ecode.specs.Image.{decoded, cell_of};
-ghost use Rattle.pitchbox.specs.Layout.{TrailerIs, RecordIs};
+ghost use Rattle.pitchbox.specs.Layout.{TrailerIs, RecordIs, misfit_byte};
 
+use crate::names::Counted;
 use crate::opcode::Opcode;
+use crate::rule::ensure;
 use ecode::sheet::Sheet;
 use ecode::ticks::is_tick_count;
+use std::fmt;
 use thiserror::Error;
 
-// The last 8 bytes of an image.
-#[derive(Clone, Copy)]
-pub struct Trailer {
-    pub length: u16,
-    pub entry: u8,
+// How many tasks, drivers and conditions a drive has.
+#[derive(Clone, Copy, PartialEq, Eq)]
+pub struct Counts {
     pub tasks: u8,
     pub drivers: u8,
     pub conditions: u8,
+}
+
+impl From<&Sheet> for Counts {
+    fn from(sheet: &Sheet) -> Counts {
+        Counts {
+            tasks: sheet.tasks,
+            drivers: sheet.drivers,
+            conditions: sheet.conditions,
+        }
+    }
+}
+
+impl fmt::Display for Counts {
+    fn fmt<W: fmt::Write>(&self, f: &mut fmt::Formatter<W>) -> fmt::Result {
+        let tasks = Counted(usize::from(self.tasks), "task");
+        let drivers = Counted(usize::from(self.drivers), "driver");
+        let conditions = Counted(usize::from(self.conditions), "condition");
+        write!(f, "{tasks}, {drivers} and {conditions}")
+    }
+}
+
+// The last 8 bytes of an image.
+#[derive(Clone, Copy, PartialEq, Eq)]
+pub struct Trailer {
+    pub length: u16,
+    pub entry: u8,
+    pub counts: Counts,
     pub form: u8,
     pub mark: u8,
 }
@@ -31,9 +59,11 @@ impl Trailer {
         Some(Trailer {
             length: u16::from_be_bytes([*high, *low]),
             entry: *entry,
-            tasks: *tasks,
-            drivers: *drivers,
-            conditions: *conditions,
+            counts: Counts {
+                tasks: *tasks,
+                drivers: *drivers,
+                conditions: *conditions,
+            },
             form: *form,
             mark: *mark,
         })
@@ -41,7 +71,9 @@ impl Trailer {
 }
 
 // The number of records that stand before a trailer.
-pub fn records(image: &[u8]) -> usize {
+pub fn records(image: &[u8]) -> usize
+    ensures { result ≡ (length image.now - 8) / 20 }
+{
     image.len().saturating_sub(8) / 20
 }
 
@@ -72,7 +104,7 @@ pub struct Pair {
 
 impl Pair {
     // Whether it says something of the task.
-    fn fits(self, tasks: u8) -> bool
+    pub fn fits(self, tasks: u8) -> bool
         ensures { result ≡ is_some (cell_of tasks self.task self.consumed self.remaining) }
     {
         match (self.consumed, self.remaining) {
@@ -109,7 +141,9 @@ pub enum Misfit {
 
 impl Misfit {
     // The byte of the record that does not fit.
-    pub fn byte(self) -> u8 {
+    pub fn byte(self) -> u8
+        ensures { result ≡ misfit_byte self }
+    {
         match self {
             Misfit::Opcode => 0,
             Misfit::Driver | Misfit::Task | Misfit::Condition | Misfit::Wait => 1,
@@ -120,25 +154,11 @@ impl Misfit {
     }
 }
 
-fn fits(fine: bool, misfit: Misfit) -> Result<(), Misfit>
-    ensures { is_ok result ≡ fine }
-{
-    if fine { Ok(()) } else { Err(misfit) }
-}
-
 // An operand of no use is 0.
-fn unused(value: u8, operand: u8) -> Result<(), Misfit>
+fn unused(operand: u8, value: u8) -> Result<(), Misfit>
     ensures { is_ok result ≡ (value == 0) }
 {
-    fits(value == 0, Misfit::Unused(operand))
-}
-
-// Why an address that an instruction goes to is no good.
-#[derive(Clone, Copy, PartialEq, Eq)]
-pub enum Astray {
-    NoNext,
-    Outside,
-    NotHigher,
+    ensure(value == 0, Misfit::Unused(operand))
 }
 
 impl<'a> Record<'a> {
@@ -169,60 +189,32 @@ impl<'a> Record<'a> {
         };
         match opcode {
             Opcode::Call => {
-                fits(x < sheet.drivers, Misfit::Driver)?;
-                unused(y, 2)?;
-                unused(z, 3)
+                ensure(x < sheet.drivers, Misfit::Driver)?;
+                unused(2, y)?;
+                unused(3, z)
             }
             Opcode::Release => {
-                fits(x < sheet.tasks, Misfit::Task)?;
-                fits(is_tick_count(y), Misfit::Window)?;
-                unused(z, 3)
+                ensure(x < sheet.tasks, Misfit::Task)?;
+                ensure(is_tick_count(y), Misfit::Window)?;
+                unused(3, z)
             }
             Opcode::Future => {
-                fits(is_tick_count(x), Misfit::Wait)?;
-                fits(u16::from(z) < 1 << sheet.tasks, Misfit::Kept)
+                ensure(is_tick_count(x), Misfit::Wait)?;
+                ensure(u16::from(z) < 1 << sheet.tasks, Misfit::Kept)
             }
             Opcode::If => {
-                fits(x < sheet.conditions, Misfit::Condition)?;
-                unused(z, 3)
+                ensure(x < sheet.conditions, Misfit::Condition)?;
+                unused(3, z)
             }
             Opcode::Jump => {
-                unused(x, 1)?;
-                unused(z, 3)
+                unused(1, x)?;
+                unused(3, z)
             }
             Opcode::Return => {
-                unused(x, 1)?;
-                unused(y, 2)?;
-                unused(z, 3)
+                unused(1, x)?;
+                unused(2, y)?;
+                unused(3, z)
             }
         }
-    }
-
-    // The first pair of the row that says nothing of its task.
-    pub fn bad_pair(&self, tasks: u8) -> Option<Pair> {
-        (0..8u8)
-            .zip(self.row.as_chunks::<2>().0)
-            .map(|(task, &[consumed, remaining])| Pair {
-                task,
-                consumed,
-                remaining,
-            })
-            .find(|pair| !pair.fits(tasks))
-    }
-
-    // Why an address that the instruction goes to is none of so many records, with its opcode and the address that it names.
-    pub fn find_astray(&self, address: u16, count: usize) -> Option<(Opcode, u8, Astray)> {
-        let to = self.y;
-        let opcode = Opcode::try_from(self.opcode).ok()?;
-        let astray = if opcode.goes_on() && usize::from(address) + 1 >= count {
-            Astray::NoNext
-        } else if opcode.aims() && usize::from(to) >= count {
-            Astray::Outside
-        } else if opcode.rises() && u16::from(to) <= address {
-            Astray::NotHigher
-        } else {
-            return None;
-        };
-        Some((opcode, to, astray))
     }
 }

@@ -92,7 +92,7 @@ fn print_line(rt: &HostRuntime, tasks: u8, a: u16, line: &Line) -> io::Result<()
 }
 
 pub fn print_listing(rt: &HostRuntime, tasks: u8, listing: &Listing) -> io::Result<()> {
-    let names = columns(rt.alloc(), (0..tasks).map(|t| Part::Task(t)))?;
+    let names = columns(rt.alloc(), (0..tasks).map(Part::Task))?;
     println!(rt; "  {:>4}  {:<36}{names}", "at", "instruction")?;
     for (a, line) in (0..listing.count).zip(&listing.lines) {
         print_line(rt, tasks, a, line)?;

@@ -16,8 +16,7 @@ use std::fmt;
 pub fn share(budget: u8, window: u8) -> Option<Fraction>
     ensures { MatchOption result (window ≡ 0) (λ s. Lowest budget window s.parts s.whole) }
 {
-    let share = Fraction::new(u128::from(budget), u128::from(window))?;
-    Some(share.reduced())
+    Fraction::new(u128::from(budget), u128::from(window)).map(Fraction::reduced)
 }
 
 // The load of a program in lowest terms, or the task at which it passes 1.

@@ -17,6 +17,7 @@ mod names;
 mod opcode;
 mod place;
 mod report;
+mod rule;
 mod run;
 mod typing_fault;
 mod words;
@@ -30,7 +31,7 @@ use std::{env, io};
 // The status: 1 where an image is refused or a command fails.
 fn run_arguments(rt: &HostRuntime) -> io::Result<ExitCode> {
     let given: Vec<String> = env::args(rt)?.skip(1).collect(rt.alloc())?;
-    let words: Vec<&str> = given.iter().map(|word| word.as_str()).collect(rt.alloc())?;
+    let words: Vec<&str> = given.iter().map(String::as_str).collect(rt.alloc())?;
     let outcome = match parse(words.as_slice()) {
         Ok(Command::Single(single)) => run_single(rt, single),
         Ok(Command::Batch) => {

@@ -1,4 +1,7 @@
 // The names of the pitch drive's parts, and how sets and numbers of them are told.
+ghost use Rattle.std.specs.Prelude.{◌≡◌};
+ghost use Rattle.pitchbox.specs.Names.{is_part_of};
+
 use ecode::fault::Layer;
 use ecode::port::PortKind;
 use ecode::set::has_member;
@@ -71,7 +74,9 @@ impl Part {
     }
 
     // Whether a sheet has it.
-    pub fn is_of(self, sheet: &Sheet) -> bool {
+    pub fn is_of(self, sheet: &Sheet) -> bool
+        ensures { result ≡ is_part_of sheet.now self }
+    {
         match self {
             Part::Port(n) => n < sheet.ports,
             Part::Task(n) => n < sheet.tasks,
@@ -116,7 +121,7 @@ pub struct TaskSet(pub u8);
 
 impl fmt::Display for TaskSet {
     fn fmt<W: fmt::Write>(&self, f: &mut fmt::Formatter<W>) -> fmt::Result {
-        write_members(f, u32::from(self.0), |t| Part::Task(t), "no task")
+        write_members(f, u32::from(self.0), Part::Task, "no task")
     }
 }
 
@@ -126,7 +131,7 @@ pub struct PortSet(pub u32);
 
 impl fmt::Display for PortSet {
     fn fmt<W: fmt::Write>(&self, f: &mut fmt::Formatter<W>) -> fmt::Result {
-        write_members(f, self.0, |p| Part::Port(p), "nothing")
+        write_members(f, self.0, Part::Port, "nothing")
     }
 }
 

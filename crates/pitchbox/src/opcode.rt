@@ -1,7 +1,11 @@
 // The opcodes, by their bytes and names.
-ghost use Rattle.pitchbox.specs.Layout.{Decodes};
+ghost use Rattle.std.specs.Prelude.{◌≡◌, is_ok};
+ghost use Rattle.ecode.specs.Instructions.{aimed};
+ghost use Rattle.pitchbox.specs.Layout.{Decodes, going};
 
+use crate::rule::ensure;
 use std::fmt;
+use thiserror::Error;
 
 #[derive(Clone, Copy, PartialEq, Eq)]
 pub enum Opcode {
@@ -14,7 +18,8 @@ pub enum Opcode {
 }
 
 // A byte that stands for no opcode.
-#[derive(Clone, Copy, PartialEq, Eq)]
+#[derive(Clone, Copy, Debug, PartialEq, Eq, Error)]
+#[error("unknown")]
 pub struct NoOpcode;
 
 impl TryFrom<u8> for Opcode {
@@ -35,36 +40,51 @@ impl TryFrom<u8> for Opcode {
     }
 }
 
-impl Opcode {
-    pub fn name(self) -> &'static str {
-        match self {
+impl fmt::Display for Opcode {
+    fn fmt<W: fmt::Write>(&self, f: &mut fmt::Formatter<W>) -> fmt::Result {
+        f.write_str(match self {
             Opcode::Call => "call",
             Opcode::Release => "release",
             Opcode::Future => "future",
             Opcode::If => "if",
             Opcode::Jump => "jump",
             Opcode::Return => "return",
-        }
-    }
-
-    // Whether the instruction goes on to the next address.
-    pub fn goes_on(self) -> bool {
-        !matches!(self, Opcode::Jump | Opcode::Return)
-    }
-
-    // Whether it names an address.
-    pub fn aims(self) -> bool {
-        matches!(self, Opcode::Future | Opcode::If | Opcode::Jump)
-    }
-
-    // Whether the address that it names must be above its own.
-    pub fn rises(self) -> bool {
-        matches!(self, Opcode::If | Opcode::Jump)
+        })
     }
 }
 
-impl fmt::Display for Opcode {
-    fn fmt<W: fmt::Write>(&self, f: &mut fmt::Formatter<W>) -> fmt::Result {
-        f.write_str(self.name())
+// Why an address that an instruction goes to is no good.
+#[derive(Clone, Copy, PartialEq, Eq)]
+pub enum Astray {
+    NoNext,
+    Outside,
+    NotHigher,
+}
+
+impl Opcode {
+    // At an address of so many, the instruction goes to the next address, or the one that it names, as it must.
+    pub fn check_target(self, to: u8, address: u16, count: usize) -> Result<(), Astray>
+        ensures { is_ok result ≡ aimed count address (going self to) }
+    {
+        let has_next = usize::from(address) + 1 < count;
+        let is_inside = usize::from(to) < count;
+        let is_higher = address < u16::from(to);
+        match self {
+            Opcode::Call | Opcode::Release => ensure(has_next, Astray::NoNext),
+            Opcode::Future => {
+                ensure(has_next, Astray::NoNext)?;
+                ensure(is_inside, Astray::Outside)
+            }
+            Opcode::If => {
+                ensure(has_next, Astray::NoNext)?;
+                ensure(is_inside, Astray::Outside)?;
+                ensure(is_higher, Astray::NotHigher)
+            }
+            Opcode::Jump => {
+                ensure(is_inside, Astray::Outside)?;
+                ensure(is_higher, Astray::NotHigher)
+            }
+            Opcode::Return => Ok(()),
+        }
     }
 }

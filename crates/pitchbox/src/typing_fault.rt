@@ -3,6 +3,7 @@ ghost use Rattle.std.specs.Prelude.{◌<◌};
 
 use crate::listing::{Shown, Told};
 use crate::names::Part;
+use crate::rule::ensure;
 use ecode::code::{Cell, Instruction, Line, Listing};
 use ecode::lines::line_at;
 use ecode::set::has_member;
@@ -69,49 +70,49 @@ impl<'a> Step<'a> {
         let at = usize::from(t);
         let here = self.line.row[at];
         let instruction = self.line.instruction;
-        if !is_allowed(self.sheet, instruction, t, here) {
-            return Err(Break::Asks { task: t, here });
-        }
+        ensure(
+            is_allowed(self.sheet, instruction, t, here),
+            Break::Asks { task: t, here },
+        )?;
         let comes = cell_after(self.sheet, instruction, t, here);
         let stands = self.next.row[at];
-        if has_next(instruction) && !flows_into(comes, stands) {
-            return Err(Break::Flow {
+        ensure(
+            !has_next(instruction) || flows_into(comes, stands),
+            Break::Flow {
                 task: t,
                 to: self.address + 1,
                 comes,
                 stands,
-            });
-        }
+            },
+        )?;
         let comes = cell_at_target(instruction, t, here);
         let stands = self.named.row[at];
-        if has_target(instruction) && !flows_into(comes, stands) {
-            return Err(Break::Flow {
+        ensure(
+            !has_target(instruction) || flows_into(comes, stands),
+            Break::Flow {
                 task: t,
                 to: target_of(instruction),
                 comes,
                 stands,
-            });
-        }
-        Ok(())
+            },
+        )
     }
 
     // The row of the entry holds every task.
     fn check_entry(&self) -> Result<(), Break> {
-        match (0..self.sheet.tasks)
-            .zip(self.line.row)
-            .find(|(_, cell)| !is_held(*cell))
-        {
-            Some((task, _)) => Err(Break::Entry { task }),
-            None => Ok(()),
-        }
+        (0..self.sheet.tasks).zip(self.line.row).try_for_each(|(task, cell)| ensure(
+            is_held(cell),
+            Break::Entry { task },
+        ))
     }
 
     // The rules of its tasks, then of a future, then of the entry.
     fn check(&self, entry: u16) -> Result<(), Break> {
         (0..self.sheet.tasks).try_for_each(|t| self.check_task(t))?;
-        if !parts_with_a_task(self.line.instruction, &self.line.row) {
-            return Err(Break::Keeps);
-        }
+        ensure(
+            parts_with_a_task(self.line.instruction, &self.line.row),
+            Break::Keeps,
+        )?;
         if self.address == entry {
             self.check_entry()?;
         }
