@@ -24,6 +24,7 @@ pub fn load_of(sheet: &Sheet, program: &Program) -> Result<Fraction, LoadFault>
     ensures { Judged (sums sheet.now program.now) (LoadIs sheet.now program.now) result }
 {
     let sum = load_sum(sheet, program)?;
+    // Field by field: a From would have to stand in the crate of the sum or of the fraction, which do not know each other.
     let load = Fraction {
         parts: sum.parts,
         whole: sum.whole,
