@@ -1,11 +1,12 @@
 // Fractions of whole numbers, kept exact: the share of a task and the load of a program.
 ghost use Rattle.std.specs.Prelude.{◌≡◌, ◌≤◌, MatchOption};
-ghost use Rattle.fraction.specs.Lowest.{GreatestDivisor, Lowest};
+ghost use Rattle.std.specs.Int.{IsGcd};
+ghost use Rattle.fraction.specs.Lowest.{Lowest};
 
 use std::fmt;
 
 // So many parts of a whole.
-#[derive(Clone, Copy)]
+#[derive(Clone, Copy, Debug, PartialEq, Eq)]
 pub struct Fraction {
     pub parts: u128,
     pub whole: u128,
@@ -14,14 +15,12 @@ pub struct Fraction {
 
 // Euclid: the rest of a division takes the place of the larger number until nothing is left.
 fn greatest_divisor(a: u128, b: u128) -> u128
-    ensures { GreatestDivisor a b result }
+    ensures gcd { IsGcd a b result }
+    ensures some { 1 ≤ b → 1 ≤ result }
 {
-    let mut large = a;
-    let mut small = b;
+    let (mut large, mut small) = (a, b);
     while small != 0 {
-        let rest = large % small;
-        large = small;
-        small = rest;
+        (large, small) = (small, large % small);
     }
     large
 }
@@ -50,12 +49,9 @@ impl Fraction {
 
 impl fmt::Display for Fraction {
     fn fmt<W: fmt::Write>(&self, f: &mut fmt::Formatter<W>) -> fmt::Result {
-        let parts = self.parts;
-        let whole = self.whole;
-        if whole == 1 {
-            write!(f, "{parts}")
-        } else {
-            write!(f, "{parts}/{whole}")
+        match *self {
+            Fraction { parts, whole: 1 } => write!(f, "{parts}"),
+            Fraction { parts, whole } => write!(f, "{parts}/{whole}"),
         }
     }
 }
@@ -66,17 +62,10 @@ mod tests {
 
     #[test]
     fn reduces_to_lowest_terms(rt: HostRuntime) {
-        let share = Fraction {
-            parts: 12,
-            whole: 20,
-        };
-        let share = share.reduced();
-        assert!(rt; share.parts == 3 && share.whole == 5);
-        let above = Fraction {
-            parts: 1723,
-            whole: 1722,
-        };
-        let above = above.reduced();
-        assert!(rt; above.parts == 1723 && above.whole == 1722);
+        let cases = [((12, 20), (3, 5)), ((1723, 1722), (1723, 1722))];
+        for ((parts, whole), (least_parts, least_whole)) in cases {
+            let reduced = Fraction::new(parts, whole).map(|share| share.reduced());
+            assert_eq!(rt; reduced, Fraction::new(least_parts, least_whole));
+        }
     }
 }

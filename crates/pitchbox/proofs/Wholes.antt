@@ -1,17 +1,12 @@
 -- The whole of a load sum is above 0: each window counts as at least 1.
-use Rattle.std.proofs.Common.{◌≡◌, ℕ, zero, suc, ◌≤◌, Bool, true, false, cond, eqb, refl, arith, lit≤}
+use Rattle.std.proofs.Common.{ℕ, zero, suc, ◌≤◌, arith, lit≤}
 use native.Mathlib.Nat.{one-le-mul}
-use borrow.Author.Tests.{eqb-false}
 use Rattle.ecode.specs.Load.{product_below, width, whole}
 
 width_pos : (win : ℕ → ℕ) (t : ℕ) → 1 ≤ width win t
-width_pos win t = go (eqb (win t) 0) refl
-  where
-    go : (b : Bool) → eqb (win t) 0 ≡ b → 1 ≤ cond b 1 (win t)
-    go true e = lit≤ tt
-    go false e = omega (arith, eqb-false (win t) 0 e)
+width_pos win t = grind arith
 
-pub product_pos : (n : ℕ) (f : ℕ → ℕ) → ((t : ℕ) → 1 ≤ f t) → 1 ≤ product_below n f
+product_pos : (n : ℕ) (f : ℕ → ℕ) → ((t : ℕ) → 1 ≤ f t) → 1 ≤ product_below n f
 unfolding product_below
 product_pos zero f h = lit≤ tt
 product_pos (suc n) f h = one-le-mul (product_pos n f h) (h n)

@@ -1,13 +1,13 @@
 // The commands of standard input, one to a line.
-use crate::command::{LineKind, kind_of};
-use crate::drive::{Drive, fresh_drive, perform, unstopped_drive};
+use crate::command::{BatchLine, Command, parse};
+use crate::drive::{Drive, answer, fresh_drive, perform, unstopped_drive};
 use crate::hand::{Hand, parse_hand};
 use crate::names::Counted;
-use crate::run::{Failure, Outcome, run_words};
+use crate::run::{Failure, Outcome, run_single};
 use std::{fmt, io};
 
 // How many commands there were, and what they came to.
-#[derive(Clone, Copy)]
+#[derive(Clone, Copy, Default)]
 struct Tally {
     commands: usize,
     accepted: usize,
@@ -17,129 +17,112 @@ struct Tally {
     tried: usize,
 }
 
+impl Tally {
+    fn count(&mut self, outcome: Outcome) {
+        self.commands = self.commands.saturating_add(1);
+        let counter = match outcome {
+            Outcome::Accepted => &mut self.accepted,
+            Outcome::Refused => &mut self.refused,
+            Outcome::Failed => &mut self.failed,
+            Outcome::Helped => &mut self.helped,
+            Outcome::Tried => &mut self.tried,
+        };
+        *counter = counter.saturating_add(1);
+    }
+}
+
 impl fmt::Display for Tally {
     fn fmt<W: fmt::Write>(&self, f: &mut fmt::Formatter<W>) -> fmt::Result {
-        let commands = Counted(self.commands, "command");
-        let accepted = self.accepted;
-        let refused = self.refused;
-        let failed = self.failed;
-        let helped = self.helped;
-        let tried = self.tried;
+        let Tally {
+            commands,
+            accepted,
+            refused,
+            failed,
+            helped,
+            tried,
+        } = *self;
+        let commands = Counted(commands, "command");
         write!(f, "{commands}: {accepted} accepted, {refused} refused, ")?;
         write!(f, "{failed} failed, {helped} for help, {tried} by hand")
     }
 }
 
-impl Tally {
-    fn new() -> Tally {
-        Tally {
-            commands: 0,
-            accepted: 0,
-            refused: 0,
-            failed: 0,
-            helped: 0,
-            tried: 0,
-        }
-    }
-
-    fn count(&mut self, outcome: Outcome) {
-        self.commands = self.commands.saturating_add(1);
-        match outcome {
-            Outcome::Accepted => self.accepted = self.accepted.saturating_add(1),
-            Outcome::Refused => self.refused = self.refused.saturating_add(1),
-            Outcome::Helped => self.helped = self.helped.saturating_add(1),
-            Outcome::Batch => {}
-        }
-    }
-
-    fn count_tried(&mut self) {
-        self.commands = self.commands.saturating_add(1);
-        self.tried = self.tried.saturating_add(1);
-    }
-
-    fn count_failed(&mut self) {
-        self.commands = self.commands.saturating_add(1);
-        self.failed = self.failed.saturating_add(1);
-    }
+// Tells why a command failed.
+fn print_failed(rt: &HostRuntime, mistake: impl fmt::Display + Drop) -> io::Result<Outcome> {
+    println!(rt; "FAILED  {mistake}")?;
+    println!(rt; "  Look at 'pitchbox help'.")?;
+    Ok(Outcome::Failed)
 }
 
-fn run_hand(rt: &HostRuntime, drive: &mut Drive, hand: Hand) -> io::Result<()> {
+fn run_hand(rt: &HostRuntime, drive: &mut Drive, hand: Hand) -> io::Result<Outcome> {
     match hand {
-        Hand::Fresh(stops) => {
-            *drive = fresh_drive(rt, stops.as_slice())?;
-            Ok(())
-        }
-        Hand::Act(act) => perform(rt, drive, act),
+        Hand::Fresh(stops) => *drive = fresh_drive(rt, stops.as_slice())?,
+        Hand::Ask(question) => answer(rt, drive, question)?,
+        Hand::Change(change) => perform(rt, drive, change)?,
     }
+    Ok(Outcome::Tried)
 }
 
-fn run_other(rt: &HostRuntime, words: &[&str], tally: &mut Tally) -> io::Result<()> {
-    match run_words(rt, words) {
-        Ok(Outcome::Batch) => {
+fn run_other(rt: &HostRuntime, words: &[&str]) -> io::Result<Outcome> {
+    let outcome = match parse(words) {
+        Ok(Command::Single(single)) => run_single(rt, single),
+        Ok(Command::Batch) => {
             println!(rt; "FAILED  a batch does not run another batch")?;
-            tally.count_failed();
+            return Ok(Outcome::Failed);
         }
-        Ok(outcome) => tally.count(outcome),
-        Err(Failure::Output(error)) => return Err(error),
-        Err(failure) => {
-            println!(rt; "FAILED  {failure}")?;
-            println!(rt; "  Look at 'pitchbox help'.")?;
-            tally.count_failed();
-        }
+        Err(mistake) => Err(Failure::from(mistake)),
+    };
+    match outcome {
+        Ok(outcome) => Ok(outcome),
+        Err(Failure::Output(error)) => Err(error),
+        Err(failure) => print_failed(rt, failure),
     }
-    Ok(())
 }
 
-fn run_command(
-    rt: &HostRuntime,
-    drive: &mut Drive,
-    line: &str,
-    tally: &mut Tally,
-) -> io::Result<()> {
+fn run_command(rt: &HostRuntime, drive: &mut Drive, line: &str) -> io::Result<Outcome> {
     println!(rt; "> {line}")?;
     let words: Vec<&str> = line.split_whitespace().collect(rt.alloc())?;
-    match parse_hand(rt.alloc(), words.as_slice()) {
-        Ok(Some(hand)) => {
-            run_hand(rt, drive, hand)?;
-            tally.count_tried();
-        }
-        Ok(None) => run_other(rt, words.as_slice(), tally)?,
-        Err(mistake) => {
-            println!(rt; "FAILED  {mistake}")?;
-            println!(rt; "  Look at 'pitchbox help'.")?;
-            tally.count_failed();
-        }
-    }
-    println!(rt)
+    let outcome = match parse_hand(rt.alloc(), words.as_slice()) {
+        Ok(Some(hand)) => run_hand(rt, drive, hand)?,
+        Ok(None) => run_other(rt, words.as_slice())?,
+        Err(mistake) => print_failed(rt, mistake)?,
+    };
+    println!(rt)?;
+    Ok(outcome)
 }
 
-fn run_line(rt: &HostRuntime, drive: &mut Drive, line: &str, tally: &mut Tally) -> io::Result<()> {
-    let text = line.trim();
-    match kind_of(text) {
-        LineKind::Blank => Ok(()),
-        LineKind::Note => println!(rt; "{text}"),
-        LineKind::Words => run_command(rt, drive, text, tally),
+// What a line's command came to, if it has one.
+fn run_line(rt: &HostRuntime, drive: &mut Drive, line: &str) -> io::Result<Option<Outcome>> {
+    match BatchLine::from(line) {
+        BatchLine::Blank => Ok(None),
+        BatchLine::Note(text) => {
+            println!(rt; "{text}")?;
+            Ok(None)
+        }
+        BatchLine::Words(text) => Ok(Some(run_command(rt, drive, text)?)),
     }
 }
 
 // A line that is no text is a command that fails; another error ends the batch.
-fn skip_line(rt: &HostRuntime, error: io::Error, tally: &mut Tally) -> io::Result<()> {
+fn skip_line(rt: &HostRuntime, error: io::Error) -> io::Result<Outcome> {
     if error.kind() != io::ErrorKind::InvalidData {
         return Err(error);
     }
     println!(rt; "FAILED  this line is no text\n")?;
-    tally.count_failed();
-    Ok(())
+    Ok(Outcome::Failed)
 }
 
 // Runs them all, with a fresh drive at hand. It goes on past a refused image and a command that fails.
 pub fn run_batch(rt: &HostRuntime) -> io::Result<()> {
-    let mut tally = Tally::new();
+    let mut tally = Tally::default();
     let mut drive = unstopped_drive();
     for line in rt.lines(rt.alloc()) {
-        match line {
-            Ok(text) => run_line(rt, &mut drive, text.as_str(), &mut tally)?,
-            Err(error) => skip_line(rt, error, &mut tally)?,
+        let outcome = match line {
+            Ok(text) => run_line(rt, &mut drive, text.as_str())?,
+            Err(error) => Some(skip_line(rt, error)?),
+        };
+        if let Some(outcome) = outcome {
+            tally.count(outcome);
         }
     }
     println!(rt; "{tally}")

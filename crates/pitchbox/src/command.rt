@@ -1,81 +1,83 @@
 // The commands, and what may be wrong with one.
-use std::fmt;
+use crate::words::{Extra, no_more};
+use thiserror::Error;
 
+// What words ask for: the commands of standard input, or a single one.
 #[derive(Clone, Copy)]
 pub enum Command<'a> {
-    Help,
     Batch,
+    Single(Single<'a>),
+}
+
+#[derive(Clone, Copy)]
+pub enum Single<'a> {
+    Help,
     Check { image: &'a str, budgets: &'a str },
 }
 
 // Why words make no command.
-#[derive(Clone, Copy)]
+#[derive(Clone, Copy, Debug, Error)]
 pub enum Mistake<'a> {
+    #[error("unknown command '{0}'")]
     Unknown(&'a str),
+    #[error("check: the image file and the budget file are missing")]
     NoImage,
+    #[error("check: the budget file is missing")]
     NoBudgets,
-    Extra(&'a str),
+    #[error(transparent)]
+    Extra(#[from] Extra<'a>),
 }
 
-impl fmt::Display for Mistake<'_> {
-    fn fmt<W: fmt::Write>(&self, f: &mut fmt::Formatter<W>) -> fmt::Result {
-        match *self {
-            Mistake::Unknown(word) => write!(f, "unknown command '{word}'"),
-            Mistake::NoImage => write!(f, "check: the image file and the budget file are missing"),
-            Mistake::NoBudgets => write!(f, "check: the budget file is missing"),
-            Mistake::Extra(word) => write!(f, "'{word}' is one word too many"),
-        }
-    }
-}
-
-// A command that takes no words.
-fn alone<'a>(command: Command<'a>, rest: &[&'a str]) -> Result<Command<'a>, Mistake<'a>> {
-    match rest {
-        [] => Ok(command),
-        [extra, ..] => Err(Mistake::Extra(*extra)),
-    }
-}
-
-fn parse_check<'a>(rest: &[&'a str]) -> Result<Command<'a>, Mistake<'a>> {
+fn parse_check<'a>(rest: &[&'a str]) -> Result<Single<'a>, Mistake<'a>> {
     match rest {
         [] => Err(Mistake::NoImage),
         [_] => Err(Mistake::NoBudgets),
-        [image, budgets] => Ok(Command::Check {
-            image: *image,
-            budgets: *budgets,
-        }),
-        [_, _, extra, ..] => Err(Mistake::Extra(*extra)),
+        [image, budgets, more @ ..] => {
+            no_more(more)?;
+            Ok(Single::Check {
+                image: *image,
+                budgets: *budgets,
+            })
+        }
     }
 }
 
 // The command that words make; none at all ask for help.
 pub fn parse<'a>(words: &[&'a str]) -> Result<Command<'a>, Mistake<'a>> {
     let [name, rest @ ..] = words else {
-        return Ok(Command::Help);
+        return Ok(Command::Single(Single::Help));
     };
     match *name {
-        "check" => parse_check(rest),
-        "batch" => alone(Command::Batch, rest),
-        "help" | "--help" | "-h" => alone(Command::Help, rest),
+        "check" => Ok(Command::Single(parse_check(rest)?)),
+        "batch" => {
+            no_more(rest)?;
+            Ok(Command::Batch)
+        }
+        "help" | "--help" | "-h" => {
+            no_more(rest)?;
+            Ok(Command::Single(Single::Help))
+        }
         _ => Err(Mistake::Unknown(*name)),
     }
 }
 
-// A line of a batch that is no command: blank, or a note.
+// A line of a batch, without the blanks around it: nothing, a note that begins with #, or the words of a command.
 #[derive(Clone, Copy)]
-pub enum LineKind {
+pub enum BatchLine<'a> {
     Blank,
-    Note,
-    Words,
+    Note(&'a str),
+    Words(&'a str),
 }
 
-pub fn kind_of(line: &str) -> LineKind {
-    let text = line.trim();
-    if text.is_empty() {
-        LineKind::Blank
-    } else if text.starts_with('#') {
-        LineKind::Note
-    } else {
-        LineKind::Words
+impl<'a> From<&'a str> for BatchLine<'a> {
+    fn from(line: &'a str) -> BatchLine<'a> {
+        let text = line.trim();
+        if text.is_empty() {
+            BatchLine::Blank
+        } else if text.starts_with('#') {
+            BatchLine::Note(text)
+        } else {
+            BatchLine::Words(text)
+        }
     }
 }

@@ -1,7 +1,7 @@
 // A drive at hand: a host with end stops, and what the commands of a batch do with it.
-use crate::hand::Act;
+use crate::hand::{Change, Question};
 use crate::help::{print_conditions, print_drive};
-use crate::names::Part;
+use crate::names::{Named, Part};
 use ecode::port::PortKind;
 use ecode::sheet::Sheet;
 use host::end_stops::EndStops;
@@ -9,7 +9,7 @@ use host::host::Host;
 use host::pitch;
 use host::pitch_host::PitchHost;
 use host::stop::{Stop, StopTable};
-use std::io;
+use std::{array, io};
 
 // The pitch drive with its end stops.
 pub type Drive = EndStops<PitchHost>;
@@ -20,21 +20,18 @@ pub fn unstopped_drive() -> Drive {
 }
 
 fn print_stop(rt: &HostRuntime, stop: Stop) -> io::Result<()> {
-    let port = Part::Port(stop.port);
-    let low = stop.low;
-    let high = stop.high;
-    println!(rt; "  {port} is held within {low} to {high}")
+    let Stop { port, low, high } = stop;
+    println!(rt; "  {} is held within {low} to {high}", Part::Port(port))
+}
+
+fn is_driver_port(sheet: &Sheet, port: u8) -> bool {
+    Part::Port(port).is_of(sheet)
+        && matches!(sheet.kinds.get(usize::from(port)), Some(PortKind::Driver))
 }
 
 // Why a name is ignored where so many are kept.
 fn print_ignored(rt: &HostRuntime, sheet: &Sheet, stop: Stop, kept: usize) -> io::Result<()> {
-    let port = Part::Port(stop.port);
-    let is_driver_port = stop.port < sheet.ports
-        && match sheet.kinds.get(stop.port as usize) {
-            Some(PortKind::Driver) => true,
-            _ => false,
-        };
-    let why = if !is_driver_port {
+    let why = if !is_driver_port(sheet, stop.port) {
         "it is no driver port"
     } else if stop.low > stop.high {
         "its low is above its high"
@@ -43,7 +40,7 @@ fn print_ignored(rt: &HostRuntime, sheet: &Sheet, stop: Stop, kept: usize) -> io
     } else {
         "it has end stops already"
     };
-    println!(rt; "  {port} is ignored: {why}")
+    println!(rt; "  {} is ignored: {why}", Part::Port(stop.port))
 }
 
 // A fresh drive, and which of the end stops named it keeps.
@@ -51,9 +48,8 @@ pub fn fresh_drive(rt: &HostRuntime, stops: &[Stop]) -> io::Result<Drive> {
     println!(rt; "a fresh pitch drive, every port at 0")?;
     let sheet = pitch::sheet();
     let mut kept = 0;
-    for n in 0..stops.len() {
-        let stop = stops[n];
-        let now_kept = StopTable::new(&sheet, &stops[0..n + 1]).in_use().len();
+    for (n, &stop) in stops.iter().enumerate() {
+        let now_kept = StopTable::new(&sheet, &stops[..=n]).in_use().len();
         if now_kept > kept {
             print_stop(rt, stop)?;
         } else {
@@ -64,21 +60,9 @@ pub fn fresh_drive(rt: &HostRuntime, stops: &[Stop]) -> io::Result<Drive> {
     Ok(EndStops::new(PitchHost::new(), stops))
 }
 
-fn kind_name(kind: PortKind) -> &'static str {
-    match kind {
-        PortKind::Sensor => "sensor",
-        PortKind::Driver => "driver",
-        PortKind::Task => "task",
-    }
-}
-
-fn print_port(rt: &HostRuntime, sheet: &Sheet, p: u8, value: Option<i32>) -> io::Result<()> {
-    let port = Part::Port(p);
-    let name = format!(in rt.alloc(); "{port}")?;
-    let kind = match sheet.kinds.get(p as usize) {
-        Some(kind) => kind_name(*kind),
-        None => "",
-    };
+fn print_port(rt: &HostRuntime, p: u8, kind: PortKind, value: Option<i32>) -> io::Result<()> {
+    let name = format!(in rt.alloc(); "{}", Part::Port(p))?;
+    let kind = Named(kind);
     match value {
         Some(value) => println!(rt; "  {p:>2}  {name:<17} {kind:<7} {value:>11}"),
         None => println!(rt; "  {p:>2}  {name:<17} {kind}"),
@@ -87,8 +71,8 @@ fn print_port(rt: &HostRuntime, sheet: &Sheet, p: u8, value: Option<i32>) -> io:
 
 fn print_sheet(rt: &HostRuntime, sheet: &Sheet) -> io::Result<()> {
     println!(rt; "  ports, by number from 0")?;
-    for p in 0..sheet.ports {
-        print_port(rt, sheet, p, None)?;
+    for (p, kind) in (0..sheet.ports).zip(sheet.kinds) {
+        print_port(rt, p, kind, None)?;
     }
     print_drive(rt, sheet)?;
     print_conditions(rt, sheet)
@@ -96,92 +80,80 @@ fn print_sheet(rt: &HostRuntime, sheet: &Sheet) -> io::Result<()> {
 
 fn print_ports<H: Host>(rt: &HostRuntime, host: &H) -> io::Result<()> {
     let sheet = host.sheet();
-    for p in 0..sheet.ports {
-        print_port(rt, &sheet, p, Some(host.look(p)))?;
+    for (p, kind) in (0..sheet.ports).zip(sheet.kinds) {
+        print_port(rt, p, kind, Some(host.look(p)))?;
     }
     Ok(())
 }
 
 // The values of all ports.
 fn readings<H: Host>(host: &H) -> [i32; 32] {
-    let mut values = [0i32; 32];
-    for p in 0..32u8 {
-        values[p as usize] = host.look(p);
-    }
-    values
+    array::from_fn(|p| host.look(p as u8))
 }
 
-// Which ports changed since.
-fn print_changes<H: Host>(rt: &HostRuntime, host: &H, before: &[i32; 32]) -> io::Result<()> {
-    let mut changed = false;
-    for p in 0..32u8 {
-        let old = before[p as usize];
-        let new = host.look(p);
-        if old != new {
-            let port = Part::Port(p);
-            println!(rt; "  {port}: {old} becomes {new}")?;
-            changed = true;
-        }
+// Which ports changed.
+fn print_changes(rt: &HostRuntime, before: &[i32; 32], after: &[i32; 32]) -> io::Result<()> {
+    if before == after {
+        return println!(rt; "  no port changes");
     }
-    if !changed {
-        println!(rt; "  no port changes")?;
+    for (p, (old, new)) in (0..32u8).zip(before.iter().zip(after)) {
+        if old != new {
+            println!(rt; "  {}: {old} becomes {new}", Part::Port(p))?;
+        }
     }
     Ok(())
 }
 
 // A number that the sheet lacks is no error of the host: it changes nothing, and the answer is 0 or no.
-fn print_lack(rt: &HostRuntime, part: Part, count: u8, number: u8) -> io::Result<()> {
-    if number >= count {
+fn print_lack(rt: &HostRuntime, sheet: &Sheet, part: Part) -> io::Result<()> {
+    if !part.is_of(sheet) {
         println!(rt; "  this drive has no {part}")?;
     }
     Ok(())
 }
 
-fn change<H: Host>(host: &mut H, act: Act) {
-    match act {
-        Act::Put { port, value } => host.put(port, value),
-        Act::Drive { driver } => host.drive(driver),
-        Act::Work { task } => host.work(task),
-        _ => {}
-    }
-}
-
 fn print_look<H: Host>(rt: &HostRuntime, host: &H, port: u8) -> io::Result<()> {
-    print_lack(rt, Part::Port(port), host.sheet().ports, port)?;
-    let value = host.look(port);
-    println!(rt; "  {value}")
+    print_lack(rt, &host.sheet(), Part::Port(port))?;
+    println!(rt; "  {}", host.look(port))
 }
 
 fn print_test<H: Host>(rt: &HostRuntime, host: &H, condition: u8) -> io::Result<()> {
-    print_lack(
-        rt,
-        Part::Condition(condition),
-        host.sheet().conditions,
-        condition,
-    )?;
+    print_lack(rt, &host.sheet(), Part::Condition(condition))?;
     let answer = if host.test(condition) { "yes" } else { "no" };
     println!(rt; "  {answer}")
 }
 
-fn print_change<H: Host>(rt: &HostRuntime, host: &mut H, act: Act) -> io::Result<()> {
-    let sheet = host.sheet();
-    match act {
-        Act::Put { port, .. } => print_lack(rt, Part::Port(port), sheet.ports, port)?,
-        Act::Drive { driver } => print_lack(rt, Part::Driver(driver), sheet.drivers, driver)?,
-        Act::Work { task } => print_lack(rt, Part::Task(task), sheet.tasks, task)?,
-        _ => {}
+pub fn answer<H: Host>(rt: &HostRuntime, host: &H, question: Question) -> io::Result<()> {
+    match question {
+        Question::Sheet => print_sheet(rt, &host.sheet()),
+        Question::Ports => print_ports(rt, host),
+        Question::Look { port } => print_look(rt, host, port),
+        Question::Test { condition } => print_test(rt, host, condition),
     }
-    let before = readings(host);
-    change(host, act);
-    print_changes(rt, host, &before)
 }
 
-pub fn perform<H: Host>(rt: &HostRuntime, host: &mut H, act: Act) -> io::Result<()> {
-    match act {
-        Act::Sheet => print_sheet(rt, &host.sheet()),
-        Act::Ports => print_ports(rt, host),
-        Act::Look { port } => print_look(rt, host, port),
-        Act::Test { condition } => print_test(rt, host, condition),
-        _ => print_change(rt, host, act),
+impl Change {
+    // The part that it is done with.
+    fn part(self) -> Part {
+        match self {
+            Change::Put { port, .. } => Part::Port(port),
+            Change::Drive { driver } => Part::Driver(driver),
+            Change::Work { task } => Part::Task(task),
+        }
     }
+
+    fn apply<H: Host>(self, host: &mut H) {
+        match self {
+            Change::Put { port, value } => host.put(port, value),
+            Change::Drive { driver } => host.drive(driver),
+            Change::Work { task } => host.work(task),
+        }
+    }
+}
+
+pub fn perform<H: Host>(rt: &HostRuntime, host: &mut H, change: Change) -> io::Result<()> {
+    print_lack(rt, &host.sheet(), change.part())?;
+    let before = readings(host);
+    change.apply(host);
+    print_changes(rt, &before, &readings(host))
 }

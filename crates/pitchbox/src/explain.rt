@@ -1,16 +1,15 @@
 // A refusal with its explanation.
-use crate::image_fault::write_image_fault;
-use crate::load_fault::{write_budget, write_overload};
+use crate::image_fault::BadImage;
+use crate::load_fault::{BadBudget, Overload};
 use crate::place::Heading;
-use crate::typing_fault::{find_break, write_break};
+use crate::typing_fault::find_break;
 use ecode::fault::{CodeFault, LoadFault};
-use ecode::lines::line_at;
 use ecode::sheet::Sheet;
 use image::read_image;
 use std::fmt;
 
 // What was refused, and why: the heading, and below it what is wrong there.
-#[derive(Drop)]
+#[derive(Clone, Copy)]
 pub struct Explained<'a> {
     pub sheet: &'a Sheet,
     pub image: &'a [u8],
@@ -18,49 +17,56 @@ pub struct Explained<'a> {
     pub fault: LoadFault,
 }
 
-fn write_typing<W: fmt::Write>(
-    f: &mut fmt::Formatter<W>,
-    sheet: &Sheet,
-    image: &[u8],
-    address: u16,
-) -> fmt::Result {
-    if let Ok(listing) = read_image(sheet, image) {
-        if let Some(found) = find_break(sheet, &listing, address) {
-            let line = line_at(&listing, address);
-            return write_break(f, line.instruction, found);
+impl Explained<'_> {
+    fn write_typing<W: fmt::Write>(&self, f: &mut fmt::Formatter<W>, address: u16) -> fmt::Result {
+        let listing = read_image(self.sheet, self.image).ok();
+        match listing.and_then(|listing| find_break(self.sheet, &listing, address)) {
+            Some(broken) => write!(f, "{broken}"),
+            None => write!(f, "  Look at the instruction and the rows there."),
         }
     }
-    write!(f, "  Look at the instruction and the rows there.")
-}
 
-fn write_load<W: fmt::Write>(
-    f: &mut fmt::Formatter<W>,
-    sheet: &Sheet,
-    image: &[u8],
-    budgets: &[u8],
-    task: u8,
-) -> fmt::Result {
-    match read_image(sheet, image) {
-        Ok(listing) => write_overload(f, &listing, budgets, task),
-        Err(_) => write!(f, "  Look at the budgets and the windows."),
+    fn write_overload<W: fmt::Write>(&self, f: &mut fmt::Formatter<W>, task: u8) -> fmt::Result {
+        let Ok(listing) = read_image(self.sheet, self.image) else {
+            return write!(f, "  Look at the budgets and the windows.");
+        };
+        let overload = Overload {
+            listing: &listing,
+            budgets: self.budgets,
+            task,
+        };
+        write!(f, "{overload}")
     }
 }
 
 impl fmt::Display for Explained<'_> {
     fn fmt<W: fmt::Write>(&self, f: &mut fmt::Formatter<W>) -> fmt::Result {
-        let heading = Heading(self.fault.refusal());
-        writeln!(f, "{heading}")?;
-        match self.fault {
+        let Explained {
+            sheet,
+            image,
+            budgets,
+            fault,
+        } = *self;
+        writeln!(f, "{}", Heading(fault))?;
+        match fault {
             LoadFault::Code(CodeFault::Image(fault)) => {
-                write_image_fault(f, self.sheet, self.image, fault)
+                let bad = BadImage {
+                    sheet,
+                    image,
+                    fault,
+                };
+                write!(f, "{bad}")
             }
-            LoadFault::Code(CodeFault::Typing { address }) => {
-                write_typing(f, self.sheet, self.image, address)
+            LoadFault::Code(CodeFault::Typing { address }) => self.write_typing(f, address),
+            LoadFault::Budget { task } => {
+                let bad = BadBudget {
+                    sheet,
+                    budgets,
+                    task,
+                };
+                write!(f, "{bad}")
             }
-            LoadFault::Budget { task } => write_budget(f, self.sheet, self.budgets, task),
-            LoadFault::Overload { task } => {
-                write_load(f, self.sheet, self.image, self.budgets, task)
-            }
+            LoadFault::Overload { task } => self.write_overload(f, task),
         }
     }
 }

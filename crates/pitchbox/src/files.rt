@@ -1,24 +1,18 @@
 // The files that are given to a check.
 use std::fs::File;
+use std::io;
 use std::io::Read;
-use std::{fmt, io};
+use thiserror::Error;
 
 // More than any image has: a larger file is refused unread.
 const LIMIT: u64 = 1 << 20;
 
 // A file that could not be read.
-#[derive(Drop)]
+#[derive(Debug, Drop, Error)]
+#[error("cannot read '{path}': {error}")]
 pub struct Unread<'a> {
     pub path: &'a str,
     pub error: io::Error,
-}
-
-impl fmt::Display for Unread<'_> {
-    fn fmt<W: fmt::Write>(&self, f: &mut fmt::Formatter<W>) -> fmt::Result {
-        let path = self.path;
-        let error = &self.error;
-        write!(f, "cannot read '{path}': {error}")
-    }
 }
 
 fn read_some(rt: &HostRuntime, path: &str) -> io::Result<Vec<u8>> {
@@ -33,8 +27,5 @@ fn read_some(rt: &HostRuntime, path: &str) -> io::Result<Vec<u8>> {
 
 // The bytes of a file.
 pub fn read_file<'a>(rt: &HostRuntime, path: &'a str) -> Result<Vec<u8>, Unread<'a>> {
-    match read_some(rt, path) {
-        Ok(bytes) => Ok(bytes),
-        Err(error) => Err(Unread { path, error }),
-    }
+    read_some(rt, path).map_err(|error| Unread { path, error })
 }

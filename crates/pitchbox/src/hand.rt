@@ -1,128 +1,96 @@
 // The commands of a batch by which a drive is tried by hand.
+use crate::words::{Extra, no_more};
 use host::stop::Stop;
-use std::alloc::{AllocError, AllocFailed, Global};
-use std::fmt;
+use std::alloc::{AllocError, Global};
+use std::str::FromStr;
+use thiserror::Error;
 
-// What is done with the drive.
+// What is asked of the drive.
 #[derive(Clone, Copy)]
-pub enum Act {
+pub enum Question {
     Sheet,
     Ports,
-    Put { port: u8, value: i32 },
-    Drive { driver: u8 },
-    Work { task: u8 },
     Look { port: u8 },
     Test { condition: u8 },
 }
 
-// A command of a drive tried by hand: a fresh host with end stops, or something done with the one at hand.
+// What is done with the drive.
+#[derive(Clone, Copy)]
+pub enum Change {
+    Put { port: u8, value: i32 },
+    Drive { driver: u8 },
+    Work { task: u8 },
+}
+
+// A command of a drive tried by hand: a fresh host with end stops, or one for the host at hand.
 #[derive(Drop)]
 pub enum Hand {
     Fresh(Vec<Stop>),
-    Act(Act),
+    Ask(Question),
+    Change(Change),
 }
 
 // Why words make no such command.
-#[derive(Drop)]
+#[derive(Debug, Drop, Error)]
 pub enum HandMistake<'a> {
     // what the command wants behind it
+    #[error("the command is: {0}")]
     Wants(&'static str),
+    #[error("'{0}' is no whole number, or too large or small for its place")]
     NoNumber(&'a str),
+    #[error("there is no drive '{0}': it is 'pitch'")]
     NoDrive(&'a str),
-    Extra(&'a str),
-    NoMemory,
+    #[error(transparent)]
+    Extra(#[from] Extra<'a>),
+    #[error("out of memory")]
+    NoMemory(#[from(alloc)] AllocError),
 }
 
-impl<'a> From<AllocError> for HandMistake<'a> {
-    fn from(_error: AllocError) -> HandMistake<'a> {
-        HandMistake::NoMemory
-    }
-}
-
-impl<'a, T: Drop> From<AllocFailed<T>> for HandMistake<'a> {
-    fn from(_refused: AllocFailed<T>) -> HandMistake<'a> {
-        HandMistake::NoMemory
-    }
-}
-
-impl fmt::Display for HandMistake<'_> {
-    fn fmt<W: fmt::Write>(&self, f: &mut fmt::Formatter<W>) -> fmt::Result {
-        match self {
-            HandMistake::Wants(usage) => write!(f, "the command is: {usage}"),
-            HandMistake::NoNumber(word) => write!(
-                f,
-                "'{word}' is no whole number, or too large or small for its place"
-            ),
-            HandMistake::NoDrive(word) => write!(f, "there is no drive '{word}': it is 'pitch'"),
-            HandMistake::Extra(word) => write!(f, "'{word}' is one word too many"),
-            HandMistake::NoMemory => write!(f, "out of memory"),
-        }
-    }
-}
-
-fn number<'a>(word: &'a str) -> Result<u8, HandMistake<'a>> {
-    match word.parse::<u8>() {
-        Ok(n) => Ok(n),
-        Err(_) => Err(HandMistake::NoNumber(word)),
-    }
-}
-
-fn value<'a>(word: &'a str) -> Result<i32, HandMistake<'a>> {
-    match word.parse::<i32>() {
-        Ok(n) => Ok(n),
-        Err(_) => Err(HandMistake::NoNumber(word)),
-    }
+// A word as a number of the type that its place wants.
+fn number<'a, T: FromStr>(word: &'a str) -> Result<T, HandMistake<'a>>
+where
+    T::Err: Drop,
+{
+    word.parse::<T>().map_err(|_| HandMistake::NoNumber(word))
 }
 
 // The one number behind a command.
 fn one<'a>(rest: &[&'a str], usage: &'static str) -> Result<u8, HandMistake<'a>> {
-    match rest {
-        [] => Err(HandMistake::Wants(usage)),
-        [word] => number(*word),
-        [_, extra, ..] => Err(HandMistake::Extra(*extra)),
-    }
+    let [word, more @ ..] = rest else {
+        return Err(HandMistake::Wants(usage));
+    };
+    no_more(more)?;
+    number(*word)
 }
 
-fn put<'a>(rest: &[&'a str]) -> Result<Act, HandMistake<'a>> {
-    match rest {
-        [port, word] => Ok(Act::Put {
-            port: number(*port)?,
-            value: value(*word)?,
-        }),
-        [_, _, extra, ..] => Err(HandMistake::Extra(*extra)),
-        _ => Err(HandMistake::Wants("put PORT VALUE")),
-    }
-}
-
-// A command that takes no words.
-fn alone<'a>(rest: &[&'a str], act: Act) -> Result<Act, HandMistake<'a>> {
-    match rest {
-        [] => Ok(act),
-        [extra, ..] => Err(HandMistake::Extra(*extra)),
-    }
+fn put<'a>(rest: &[&'a str]) -> Result<Change, HandMistake<'a>> {
+    let [port, value, more @ ..] = rest else {
+        return Err(HandMistake::Wants("put PORT VALUE"));
+    };
+    no_more(more)?;
+    Ok(Change::Put {
+        port: number(*port)?,
+        value: number(*value)?,
+    })
 }
 
 const FRESH: &str = "host pitch [stops PORT LOW HIGH]...";
 
-// The end stops named, four words each.
-fn named_stops<'a>(heap: Global, words: &[&'a str]) -> Result<Vec<Stop>, HandMistake<'a>> {
-    let mut stops = Vec::new(heap);
-    for group in words.chunks(4) {
-        let ["stops", port, low, high] = group else {
-            return Err(HandMistake::Wants(FRESH));
-        };
-        stops.push(Stop {
-            port: number(*port)?,
-            low: value(*low)?,
-            high: value(*high)?,
-        })?;
-    }
-    Ok(stops)
+// An end stop, named by four words.
+fn named_stop<'a>(words: &[&'a str]) -> Result<Stop, HandMistake<'a>> {
+    let ["stops", port, low, high] = words else {
+        return Err(HandMistake::Wants(FRESH));
+    };
+    Ok(Stop {
+        port: number(*port)?,
+        low: number(*low)?,
+        high: number(*high)?,
+    })
 }
 
-fn fresh<'a>(heap: Global, rest: &[&'a str]) -> Result<Hand, HandMistake<'a>> {
+fn fresh<'a>(heap: Global, rest: &[&'a str]) -> Result<Vec<Stop>, HandMistake<'a>> {
     match rest {
-        ["pitch", names @ ..] => Ok(Hand::Fresh(named_stops(heap, names)?)),
+        ["pitch", names @ ..] => names.chunks(4).map(named_stop).try_collect(heap),
         [word, ..] => Err(HandMistake::NoDrive(*word)),
         [] => Err(HandMistake::Wants(FRESH)),
     }
@@ -133,24 +101,30 @@ pub fn parse_hand<'a>(heap: Global, words: &[&'a str]) -> Result<Option<Hand>, H
     let [name, rest @ ..] = words else {
         return Ok(None);
     };
-    let act = match *name {
-        "host" => return Ok(Some(fresh(heap, rest)?)),
-        "sheet" => alone(rest, Act::Sheet)?,
-        "ports" => alone(rest, Act::Ports)?,
-        "put" => put(rest)?,
-        "drive" => Act::Drive {
+    let hand = match *name {
+        "host" => Hand::Fresh(fresh(heap, rest)?),
+        "sheet" => {
+            no_more(rest)?;
+            Hand::Ask(Question::Sheet)
+        }
+        "ports" => {
+            no_more(rest)?;
+            Hand::Ask(Question::Ports)
+        }
+        "put" => Hand::Change(put(rest)?),
+        "drive" => Hand::Change(Change::Drive {
             driver: one(rest, "drive DRIVER")?,
-        },
-        "work" => Act::Work {
+        }),
+        "work" => Hand::Change(Change::Work {
             task: one(rest, "work TASK")?,
-        },
-        "look" => Act::Look {
+        }),
+        "look" => Hand::Ask(Question::Look {
             port: one(rest, "look PORT")?,
-        },
-        "test" => Act::Test {
+        }),
+        "test" => Hand::Ask(Question::Test {
             condition: one(rest, "test CONDITION")?,
-        },
+        }),
         _ => return Ok(None),
     };
-    Ok(Some(Hand::Act(act)))
+    Ok(Some(hand))
 }

@@ -72,11 +72,13 @@ EXAMPLES
 ";
 
 fn print_wires(rt: &HostRuntime, part: Part, from: u32, to: u32) -> io::Result<()> {
-    let name = format!(in rt.alloc(); "{part}")?;
-    let from = PortSet(from);
-    let to = PortSet(to);
     let number = part.number();
-    println!(rt; "         {number} {name:<9} {from} to {to}")
+    let name = format!(in rt.alloc(); "{part}")?;
+    println!(rt;
+        "         {number} {name:<9} {} to {}",
+        PortSet(from),
+        PortSet(to)
+    )
 }
 
 // The parts of the drive: for drivers and tasks the ports that they read and write.
@@ -94,11 +96,9 @@ pub fn print_drive(rt: &HostRuntime, sheet: &Sheet) -> io::Result<()> {
 
 pub fn print_conditions(rt: &HostRuntime, sheet: &Sheet) -> io::Result<()> {
     println!(rt; "  conditions, by number from 0, with the ports they look at")?;
-    for c in 0..sheet.conditions {
-        let condition = Part::Condition(c);
-        let name = format!(in rt.alloc(); "{condition}")?;
-        let looks = PortSet(sheet.looks[c as usize]);
-        println!(rt; "         {c} {name:<9} {looks} is not 0")?;
+    for (c, looks) in (0..sheet.conditions).zip(sheet.looks) {
+        let name = format!(in rt.alloc(); "{}", Part::Condition(c))?;
+        println!(rt; "         {c} {name:<9} {} is not 0", PortSet(looks))?;
     }
     Ok(())
 }

@@ -1,8 +1,10 @@
 // The listing of a program: a line for each address, with the row as a column for each task.
+ghost use Rattle.std.specs.Iterator.{IsFinite};
+
 use crate::names::{Part, TaskSet};
 use ecode::code::{Cell, Instruction, Line, Listing};
-use ecode::lines::line_at;
 use std::alloc::{AllocError, Global};
+use std::fmt::Write;
 use std::{fmt, io};
 
 // An instruction as the listing shows it.
@@ -12,21 +14,15 @@ pub struct Shown(pub Instruction);
 impl fmt::Display for Shown {
     fn fmt<W: fmt::Write>(&self, f: &mut fmt::Formatter<W>) -> fmt::Result {
         match self.0 {
-            Instruction::Call { driver } => {
-                let driver = Part::Driver(driver);
-                write!(f, "call {driver}")
-            }
+            Instruction::Call { driver } => write!(f, "call {}", Part::Driver(driver)),
             Instruction::Release { task, window } => {
-                let task = Part::Task(task);
-                write!(f, "release {task}, window {window}")
+                write!(f, "release {}, window {window}", Part::Task(task))
             }
             Instruction::Future { wait, to, kept } => {
-                let kept = TaskSet(kept);
-                write!(f, "future in {wait}, to {to}, keep {kept}")
+                write!(f, "future in {wait}, to {to}, keep {}", TaskSet(kept))
             }
             Instruction::If { condition, to } => {
-                let condition = Part::Condition(condition);
-                write!(f, "if {condition}, to {to}")
+                write!(f, "if {}, to {to}", Part::Condition(condition))
             }
             Instruction::Jump { to } => write!(f, "jump to {to}"),
             Instruction::Return => write!(f, "return"),
@@ -71,42 +67,35 @@ impl fmt::Display for Told {
     }
 }
 
-// The columns of a row, one for each of the drive's tasks.
-fn columns(heap: Global, tasks: u8, row: [Cell; 8]) -> Result<String, AllocError> {
+// Columns side by side, one for each cell.
+fn columns<T: fmt::Display + Drop, I: Iterator<Item = T> + Drop>(
+    heap: Global,
+    cells: I,
+) -> Result<String, AllocError>
+    requires can { I.can_next cells }
+    requires ends { IsFinite (I.remaining cells) }
+{
     let mut text = String::new(heap);
-    for cell in row.iter().take(tasks as usize) {
-        let state = State(*cell);
-        let column = format!(in heap; "{state}")?;
-        text.push_str(format!(in heap; "{column:>9}")?.as_str())?;
+    for cell in cells {
+        let column = format!(in heap; "{cell}")?;
+        write!(text, "{column:>9}")?;
     }
     Ok(text)
 }
 
-fn headings(heap: Global, tasks: u8) -> Result<String, AllocError> {
-    let mut text = String::new(heap);
-    for t in 0..tasks {
-        let task = Part::Task(t);
-        let column = format!(in heap; "{task}")?;
-        text.push_str(format!(in heap; "{column:>9}")?.as_str())?;
-    }
-    Ok(text)
-}
-
-fn print_line(rt: &HostRuntime, tasks: u8, a: u16, line: Line) -> io::Result<()> {
+fn print_line(rt: &HostRuntime, tasks: u8, a: u16, line: &Line) -> io::Result<()> {
     let heap = rt.alloc();
-    let shown = Shown(line.instruction);
-    let instruction = format!(in heap; "{shown}")?;
-    let row = columns(heap, tasks, line.row)?;
+    let instruction = format!(in heap; "{}", Shown(line.instruction))?;
+    let cells = line.row.iter().take(usize::from(tasks));
+    let row = columns(heap, cells.map(|cell| State(*cell)))?;
     println!(rt; "  {a:>4}  {instruction:<36}{row}")
 }
 
 pub fn print_listing(rt: &HostRuntime, tasks: u8, listing: &Listing) -> io::Result<()> {
-    let at = "at";
-    let instruction = "instruction";
-    let row = headings(rt.alloc(), tasks)?;
-    println!(rt; "  {at:>4}  {instruction:<36}{row}")?;
-    for a in 0..listing.count {
-        print_line(rt, tasks, a, line_at(listing, a))?;
+    let names = columns(rt.alloc(), (0..tasks).map(Part::Task))?;
+    println!(rt; "  {:>4}  {:<36}{names}", "at", "instruction")?;
+    for (a, line) in (0..listing.count).zip(&listing.lines) {
+        print_line(rt, tasks, a, line)?;
     }
     Ok(())
 }

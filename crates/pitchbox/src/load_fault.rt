@@ -16,14 +16,7 @@ use std::fmt;
 pub fn share(budget: u8, window: u8) -> Option<Fraction>
     ensures { MatchOption result (window ≡ 0) (λ s. Lowest budget window s.parts s.whole) }
 {
-    if window == 0 {
-        return None;
-    }
-    let share = Fraction {
-        parts: budget as u128,
-        whole: window as u128,
-    };
-    Some(share.reduced())
+    Fraction::new(u128::from(budget), u128::from(window)).map(Fraction::reduced)
 }
 
 // The load of a program in lowest terms, or the task at which it passes 1.
@@ -31,6 +24,7 @@ pub fn load_of(sheet: &Sheet, program: &Program) -> Result<Fraction, LoadFault>
     ensures { Judged (sums sheet.now program.now) (LoadIs sheet.now program.now) result }
 {
     let sum = load_sum(sheet, program)?;
+    // Field by field: a From would have to stand in the crate of the sum or of the fraction, which do not know each other.
     let load = Fraction {
         parts: sum.parts,
         whole: sum.whole,
@@ -45,91 +39,99 @@ fn add_share(sum: Fraction, budget: u8, window: u8) -> Option<Fraction>
     if window == 0 {
         return Some(sum);
     }
-    let old = sum.parts.checked_mul(window as u128)?;
-    let new = sum.whole.checked_mul(budget as u128)?;
+    let window = u128::from(window);
+    let old = sum.parts.checked_mul(window)?;
+    let new = sum.whole.checked_mul(u128::from(budget))?;
     let parts = old.checked_add(new)?;
-    let whole = sum.whole.checked_mul(window as u128)?;
+    let whole = sum.whole.checked_mul(window)?;
     Fraction::new(parts, whole)
 }
 
-// The load of the first tasks, in lowest terms.
-fn load_of_first(listing: &Listing, budgets: &[u8], tasks: u8) -> Option<Fraction> {
-    let mut sum = Fraction { parts: 0, whole: 1 };
-    for t in 0..tasks {
-        let budget = budgets.get(t as usize).copied()?;
-        sum = add_share(sum, budget, least_window(listing, t))?;
-    }
-    Some(sum.reduced())
+// A budget sheet with a fault at a task: its length is wrong, or the task's budget.
+#[derive(Clone, Copy)]
+pub struct BadBudget<'a> {
+    pub sheet: &'a Sheet,
+    pub budgets: &'a [u8],
+    pub task: u8,
 }
 
-pub fn write_budget<W: fmt::Write>(
-    f: &mut fmt::Formatter<W>,
-    sheet: &Sheet,
-    budgets: &[u8],
-    t: u8,
-) -> fmt::Result {
-    let tasks = sheet.tasks;
-    if budgets.len() != tasks as usize {
-        let bytes = Counted(budgets.len(), "byte");
-        let tasks = Counted(tasks as usize, "task");
+impl fmt::Display for BadBudget<'_> {
+    fn fmt<W: fmt::Write>(&self, f: &mut fmt::Formatter<W>) -> fmt::Result {
+        let tasks = usize::from(self.sheet.tasks);
+        if self.budgets.len() != tasks {
+            let bytes = Counted(self.budgets.len(), "byte");
+            let tasks = Counted(tasks, "task");
+            writeln!(
+                f,
+                "  The budget sheet has {bytes}, and the drive has {tasks}."
+            )?;
+            return write!(
+                f,
+                "  Look at the budget sheet: it is one byte for each task, and no more."
+            );
+        }
+        let t = self.task;
+        let task = Part::Task(t);
+        let budget = self.budgets.get(usize::from(t)).copied().unwrap_or(0);
         writeln!(
             f,
-            "  The budget sheet has {bytes}, and the drive has {tasks}."
+            "  The budget of {task} is {budget}, and must be 1 to 240 ticks."
         )?;
-        return write!(
-            f,
-            "  Look at the budget sheet: it is one byte for each task, and no more."
-        );
+        write!(f, "  Look at byte {t} of the budget sheet.")
     }
-    let task = Part::Task(t);
-    let budget = budgets.get(t as usize).copied().unwrap_or(0);
-    writeln!(
-        f,
-        "  The budget of {task} is {budget}, and must be 1 to 240 ticks."
-    )?;
-    write!(f, "  Look at byte {t} of the budget sheet.")
 }
 
-// The tasks up to the last, each with its budget over its least window.
-fn write_shares<W: fmt::Write>(
-    f: &mut fmt::Formatter<W>,
-    listing: &Listing,
-    budgets: &[u8],
-    last: u8,
-) -> fmt::Result {
-    write!(f, "  Budgets over least windows:")?;
-    for t in 0..last.saturating_add(1) {
-        let task = Part::Task(t);
-        let budget = budgets.get(t as usize).copied().unwrap_or(0);
-        let window = least_window(listing, t);
-        match window {
-            0 => write!(f, " {task} not released")?,
-            _ => write!(f, " {task} {budget}/{window}")?,
-        }
-        if t < last {
-            write!(f, ",")?;
-        }
-    }
-    writeln!(f, ".")
+// The load of the tasks up to one, with which it passes 1.
+#[derive(Clone, Copy)]
+pub struct Overload<'a> {
+    pub listing: &'a Listing,
+    pub budgets: &'a [u8],
+    pub task: u8,
 }
 
-pub fn write_overload<W: fmt::Write>(
-    f: &mut fmt::Formatter<W>,
-    listing: &Listing,
-    budgets: &[u8],
-    t: u8,
-) -> fmt::Result {
-    let task = Part::Task(t);
-    match load_of_first(listing, budgets, t.saturating_add(1)) {
-        Some(sum) => writeln!(
-            f,
-            "  With {task} the load comes to {sum}, which is more than 1."
-        )?,
-        None => writeln!(f, "  With {task} the load comes to more than 1.")?,
+impl Overload<'_> {
+    // That load in lowest terms, if its numbers stay small enough.
+    fn load(&self) -> Option<Fraction> {
+        let budgets = self.budgets.get(..=usize::from(self.task))?;
+        let none = Fraction { parts: 0, whole: 1 };
+        let sum = (0..=self.task).zip(budgets).try_fold(
+            none,
+            |sum, (t, budget)| add_share(sum, *budget, least_window(self.listing, t)),
+        )?;
+        Some(sum.reduced())
     }
-    write_shares(f, listing, budgets, t)?;
-    write!(
-        f,
-        "  Look at these budgets, and at the windows of these tasks' releases."
-    )
+
+    // The tasks, each with its budget over its least window.
+    fn write_shares<W: fmt::Write>(&self, f: &mut fmt::Formatter<W>) -> fmt::Result {
+        write!(f, "  Budgets over least windows:")?;
+        for (t, budget) in (0..=self.task).zip(self.budgets) {
+            let task = Part::Task(t);
+            if t > 0 {
+                write!(f, ",")?;
+            }
+            match least_window(self.listing, t) {
+                0 => write!(f, " {task} not released")?,
+                window => write!(f, " {task} {budget}/{window}")?,
+            }
+        }
+        writeln!(f, ".")
+    }
+}
+
+impl fmt::Display for Overload<'_> {
+    fn fmt<W: fmt::Write>(&self, f: &mut fmt::Formatter<W>) -> fmt::Result {
+        let task = Part::Task(self.task);
+        match self.load() {
+            Some(load) => writeln!(
+                f,
+                "  With {task} the load comes to {load}, which is more than 1."
+            )?,
+            None => writeln!(f, "  With {task} the load comes to more than 1.")?,
+        }
+        self.write_shares(f)?;
+        write!(
+            f,
+            "  Look at these budgets, and at the windows of these tasks' releases."
+        )
+    }
 }

@@ -1,26 +1,51 @@
-// The names of the pitch drive's parts, each list in the order of their numbers.
-use std::fmt;
+// The names of the pitch drive's parts, and how sets and numbers of them are told.
+ghost use Rattle.std.specs.Prelude.{◌≡◌};
+ghost use Rattle.pitchbox.specs.Names.{is_part_of};
+
+use ecode::fault::Layer;
+use ecode::port::PortKind;
 use ecode::set::has_member;
+use ecode::sheet::Sheet;
+use std::fmt;
 
-const PORTS: [&str; 8] = [
-    "angle",
-    "selector",
-    "filtered angle",
-    "raw angle",
-    "command",
-    "control's output",
-    "filter's output",
-    "filter's memory",
-];
+// The word for a part of one kind, and the names of all of them in the order of their numbers.
+#[derive(Clone, Copy)]
+struct Kind {
+    word: &'static str,
+    names: &'static [&'static str],
+}
 
-const TASKS: [&str; 2] = ["control", "filter"];
+const PORT: Kind = Kind {
+    word: "port",
+    names: &[
+        "angle",
+        "selector",
+        "filtered angle",
+        "raw angle",
+        "command",
+        "control's output",
+        "filter's output",
+        "filter's memory",
+    ],
+};
 
-const DRIVERS: [&str; 3] = ["sample", "filtered", "command"];
+const TASK: Kind = Kind {
+    word: "task",
+    names: &["control", "filter"],
+};
 
-const CONDITIONS: [&str; 1] = ["selector"];
+const DRIVER: Kind = Kind {
+    word: "driver",
+    names: &["sample", "filtered", "command"],
+};
+
+const CONDITION: Kind = Kind {
+    word: "condition",
+    names: &["selector"],
+};
 
 // A part of the drive by its number. It is shown by name, or as its kind and number where it has none.
-#[derive(Clone, Copy)]
+#[derive(Clone, Copy, PartialEq, Eq)]
 pub enum Part {
     Port(u8),
     Task(u8),
@@ -35,22 +60,28 @@ impl Part {
         }
     }
 
-    fn kind(self) -> &'static str {
+    fn kind(self) -> Kind {
         match self {
-            Part::Port(_) => "port",
-            Part::Task(_) => "task",
-            Part::Driver(_) => "driver",
-            Part::Condition(_) => "condition",
+            Part::Port(_) => PORT,
+            Part::Task(_) => TASK,
+            Part::Driver(_) => DRIVER,
+            Part::Condition(_) => CONDITION,
         }
     }
 
     pub fn name(self) -> Option<&'static str> {
-        let at = self.number() as usize;
+        self.kind().names.get(usize::from(self.number())).copied()
+    }
+
+    // Whether a sheet has it.
+    pub fn is_of(self, sheet: &Sheet) -> bool
+        ensures { result ≡ is_part_of sheet.now self }
+    {
         match self {
-            Part::Port(_) => PORTS.get(at).copied(),
-            Part::Task(_) => TASKS.get(at).copied(),
-            Part::Driver(_) => DRIVERS.get(at).copied(),
-            Part::Condition(_) => CONDITIONS.get(at).copied(),
+            Part::Port(n) => n < sheet.ports,
+            Part::Task(n) => n < sheet.tasks,
+            Part::Driver(n) => n < sheet.drivers,
+            Part::Condition(n) => n < sheet.conditions,
         }
     }
 }
@@ -59,60 +90,48 @@ impl fmt::Display for Part {
     fn fmt<W: fmt::Write>(&self, f: &mut fmt::Formatter<W>) -> fmt::Result {
         match self.name() {
             Some(name) => write!(f, "{name}"),
-            None => {
-                let kind = self.kind();
-                let number = self.number();
-                write!(f, "{kind} {number}")
-            }
+            None => write!(f, "{} {}", self.kind().word, self.number()),
         }
     }
 }
 
-// A set of tasks, bit t for task t.
+// The parts whose numbers a mask has, bit n for part n, or what is said where it has none.
+fn write_members<W: fmt::Write, P: Fn(u8) -> Part>(
+    f: &mut fmt::Formatter<W>,
+    mask: u32,
+    part: P,
+    none: &str,
+) -> fmt::Result
+    requires { P.IsAlwaysCallable part }
+{
+    let mut members = (0..32u8).filter(|n| has_member(mask, *n));
+    let Some(first) = members.next() else {
+        return write!(f, "{none}");
+    };
+    write!(f, "{}", part(first))?;
+    for n in members {
+        write!(f, " and {}", part(n))?;
+    }
+    Ok(())
+}
+
+// A set of tasks.
 #[derive(Clone, Copy)]
 pub struct TaskSet(pub u8);
 
 impl fmt::Display for TaskSet {
     fn fmt<W: fmt::Write>(&self, f: &mut fmt::Formatter<W>) -> fmt::Result {
-        let mut some = false;
-        for t in 0..8u8 {
-            if has_member(u32::from(self.0), t) {
-                let task = Part::Task(t);
-                if some {
-                    write!(f, " and ")?;
-                }
-                write!(f, "{task}")?;
-                some = true;
-            }
-        }
-        if !some {
-            write!(f, "no task")?;
-        }
-        Ok(())
+        write_members(f, u32::from(self.0), Part::Task, "no task")
     }
 }
 
-// A set of ports, bit p for port p.
+// A set of ports.
 #[derive(Clone, Copy)]
 pub struct PortSet(pub u32);
 
 impl fmt::Display for PortSet {
     fn fmt<W: fmt::Write>(&self, f: &mut fmt::Formatter<W>) -> fmt::Result {
-        let mut some = false;
-        for p in 0..32u8 {
-            if (self.0 >> p) & 1 == 1 {
-                let port = Part::Port(p);
-                if some {
-                    write!(f, " and ")?;
-                }
-                write!(f, "{port}")?;
-                some = true;
-            }
-        }
-        if !some {
-            write!(f, "nothing")?;
-        }
-        Ok(())
+        write_members(f, self.0, Part::Port, "nothing")
     }
 }
 
@@ -122,12 +141,33 @@ pub struct Counted(pub usize, pub &'static str);
 
 impl fmt::Display for Counted {
     fn fmt<W: fmt::Write>(&self, f: &mut fmt::Formatter<W>) -> fmt::Result {
-        let number = self.0;
-        let thing = self.1;
-        if number == 1 {
-            write!(f, "1 {thing}")
-        } else {
-            write!(f, "{number} {thing}s")
+        match *self {
+            Counted(1, thing) => write!(f, "1 {thing}"),
+            Counted(number, thing) => write!(f, "{number} {thing}s"),
         }
+    }
+}
+
+// What the check has words for, shown by its word.
+#[derive(Clone, Copy)]
+pub struct Named<T>(pub T);
+
+impl fmt::Display for Named<Layer> {
+    fn fmt<W: fmt::Write>(&self, f: &mut fmt::Formatter<W>) -> fmt::Result {
+        f.pad(match self.0 {
+            Layer::Image => "image",
+            Layer::Check => "check",
+            Layer::Load => "load",
+        })
+    }
+}
+
+impl fmt::Display for Named<PortKind> {
+    fn fmt<W: fmt::Write>(&self, f: &mut fmt::Formatter<W>) -> fmt::Result {
+        f.pad(match self.0 {
+            PortKind::Sensor => "sensor",
+            PortKind::Driver => "driver",
+            PortKind::Task => "task",
+        })
     }
 }

@@ -1,33 +1,50 @@
 // A refusal's number, place and layer, in words.
-use crate::names::Part;
-use ecode::fault::{Layer, Refusal};
+use crate::names::{Named, Part};
+use ecode::fault::{CodeFault, ImageFault, LoadFault};
 use std::fmt;
 
 // The heading of a refusal.
 #[derive(Clone, Copy)]
-pub struct Heading(pub Refusal);
+pub struct Heading(pub LoadFault);
 
-// What the place of a refusal is, which follows from the number.
-#[derive(Clone, Copy)]
+// The place of a refusal: of a byte or an address, or the number of a task.
+#[derive(Clone, Copy, PartialEq, Eq)]
 enum Place {
     Byte(usize),
-    Address(usize),
-    Task(usize),
+    Address(u16),
+    Task(u8),
 }
 
-fn place_of(refusal: Refusal) -> Place {
-    match refusal.number {
-        0..=5 => Place::Byte(refusal.place),
-        6..=9 => Place::Address(refusal.place),
-        _ => Place::Task(refusal.place),
+impl From<ImageFault> for Place {
+    fn from(fault: ImageFault) -> Place {
+        match fault {
+            ImageFault::TooShort => Place::Byte(0),
+            ImageFault::FormOrMark { place }
+            | ImageFault::RecordLength { place }
+            | ImageFault::Counts { place }
+            | ImageFault::Entry { place } => Place::Byte(place),
+            ImageFault::Operation { address }
+            | ImageFault::RowPair { address }
+            | ImageFault::Target { address } => Place::Address(address),
+        }
     }
 }
 
-fn layer_name(layer: Layer) -> &'static str {
-    match layer {
-        Layer::Image => "image",
-        Layer::Check => "check",
-        Layer::Load => "load",
+impl From<CodeFault> for Place {
+    fn from(fault: CodeFault) -> Place {
+        match fault {
+            CodeFault::Image(fault) => Place::from(fault),
+            CodeFault::Typing { address } => Place::Address(address),
+        }
+    }
+}
+
+impl From<LoadFault> for Place {
+    fn from(fault: LoadFault) -> Place {
+        match fault {
+            LoadFault::Code(fault) => Place::from(fault),
+            LoadFault::Budget { task } | LoadFault::Overload { task } => Place::Task(task),
+        }
     }
 }
 
@@ -36,28 +53,21 @@ impl fmt::Display for Place {
         match *self {
             Place::Byte(n) => write!(f, "byte {n}"),
             Place::Address(n) => write!(f, "address {n}"),
-            Place::Task(n) => match u8::try_from(n) {
-                Ok(t) => write_task(f, t),
-                Err(_) => write!(f, "task {n}"),
+            // A number that no task has is that of all tasks: of budgets there are too few or many.
+            Place::Task(n) => match Part::Task(n).name() {
+                Some(name) => write!(f, "task {n} ({name})"),
+                None => write!(f, "{n}, the number of tasks"),
             },
         }
     }
 }
 
-// A task with its number and name. A number that no task has is that of all tasks: of budgets there are too few or many.
-fn write_task<W: fmt::Write>(f: &mut fmt::Formatter<W>, t: u8) -> fmt::Result {
-    match Part::Task(t).name() {
-        Some(name) => write!(f, "task {t} ({name})"),
-        None => write!(f, "{t}, the number of tasks"),
-    }
-}
-
 impl fmt::Display for Heading {
     fn fmt<W: fmt::Write>(&self, f: &mut fmt::Formatter<W>) -> fmt::Result {
-        let refusal = self.0;
+        let refusal = self.0.refusal();
         let number = refusal.number;
-        let place = place_of(refusal);
-        let layer = layer_name(refusal.layer);
+        let place = Place::from(self.0);
+        let layer = Named(refusal.layer);
         write!(f, "REFUSED  number {number} at {place}, layer {layer}")
     }
 }

@@ -1,11 +1,9 @@
-// The report on an image and its budgets.
+// The report on an image and budgets that are accepted.
 use crate::examine::Accepted;
-use crate::explain::Explained;
 use crate::listing::print_listing;
 use crate::load_fault::share;
 use crate::names::{Counted, Part};
 use ecode::code::Program;
-use ecode::fault::LoadFault;
 use ecode::sheet::Sheet;
 use fraction::fraction::Fraction;
 use loader::load::least_window;
@@ -17,7 +15,7 @@ struct Load(Fraction);
 
 impl fmt::Display for Load {
     fn fmt<W: fmt::Write>(&self, f: &mut fmt::Formatter<W>) -> fmt::Result {
-        let load = self.0;
+        let Load(load) = *self;
         write!(f, "load {load}")?;
         if load.parts == load.whole {
             write!(f, " (exactly full)")?;
@@ -30,9 +28,7 @@ impl fmt::Display for Load {
 }
 
 fn print_task(rt: &HostRuntime, t: u8, budget: u8, window: u8) -> io::Result<()> {
-    let heap = rt.alloc();
-    let task = Part::Task(t);
-    let name = format!(in heap; "{task}")?;
+    let name = format!(in rt.alloc(); "{}", Part::Task(t))?;
     match share(budget, window) {
         Some(share) => println!(rt; "  {name:<10}{budget:>8}{window:>14}   {share}"),
         None => println!(rt; "  {name:<10}{budget:>8}             -   not released"),
@@ -41,38 +37,20 @@ fn print_task(rt: &HostRuntime, t: u8, budget: u8, window: u8) -> io::Result<()>
 
 fn print_tasks(rt: &HostRuntime, sheet: &Sheet, program: &Program) -> io::Result<()> {
     println!(rt; "  task        budget  least window   share")?;
-    for t in 0..sheet.tasks {
-        let window = least_window(&program.listing, t);
-        print_task(rt, t, program.budgets[t as usize], window)?;
+    for (t, budget) in (0..sheet.tasks).zip(program.budgets) {
+        print_task(rt, t, budget, least_window(&program.listing, t))?;
     }
     Ok(())
 }
 
 pub fn print_accepted(rt: &HostRuntime, sheet: &Sheet, accepted: &Accepted) -> io::Result<()> {
-    let load = Load(accepted.load);
     let listing = &accepted.program.listing;
-    let instructions = Counted(listing.count as usize, "instruction");
     let entry = listing.entry;
-    println!(rt; "ACCEPTED  {load}")?;
+    let instructions = Counted(usize::from(listing.count), "instruction");
+    println!(rt; "ACCEPTED  {}", Load(accepted.load))?;
     println!(rt)?;
     print_tasks(rt, sheet, &accepted.program)?;
     println!(rt)?;
     println!(rt; "  entry {entry}, {instructions}")?;
     print_listing(rt, sheet.tasks, listing)
-}
-
-pub fn print_refused<'a>(
-    rt: &HostRuntime,
-    sheet: &'a Sheet,
-    image: &'a [u8],
-    budgets: &'a [u8],
-    fault: LoadFault,
-) -> io::Result<()> {
-    let explained = Explained {
-        sheet,
-        image,
-        budgets,
-        fault,
-    };
-    println!(rt; "{explained}")
 }

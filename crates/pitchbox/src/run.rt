@@ -1,56 +1,33 @@
 // Carries out one command.
-use crate::command::{Command, Mistake, parse};
+use crate::command::{Mistake, Single};
 use crate::examine::examine;
+use crate::explain::Explained;
 use crate::files::{Unread, read_file};
 use crate::help::print_help;
-use crate::report::{print_accepted, print_refused};
+use crate::report::print_accepted;
 use host::pitch::sheet;
-use std::{fmt, io};
+use std::io;
+use thiserror::Error;
 
-// What a command came to.
-#[derive(Clone, Copy)]
+// What a command came to. Only those of a batch are tried by hand, or told of as failed.
+#[derive(Clone, Copy, PartialEq, Eq)]
 pub enum Outcome {
     Accepted,
     Refused,
+    Failed,
     Helped,
-    // the commands of standard input are still to be run
-    Batch,
+    Tried,
 }
 
 // Why a command was not carried out.
-#[derive(Drop)]
+#[derive(Debug, Drop, Error)]
 pub enum Failure<'a> {
-    Usage(Mistake<'a>),
-    File(Unread<'a>),
-    Output(io::Error),
-}
-
-impl<'a> From<Mistake<'a>> for Failure<'a> {
-    fn from(mistake: Mistake<'a>) -> Failure<'a> {
-        Failure::Usage(mistake)
-    }
-}
-
-impl<'a> From<Unread<'a>> for Failure<'a> {
-    fn from(unread: Unread<'a>) -> Failure<'a> {
-        Failure::File(unread)
-    }
-}
-
-impl<'a> From<io::Error> for Failure<'a> {
-    fn from(error: io::Error) -> Failure<'a> {
-        Failure::Output(error)
-    }
-}
-
-impl fmt::Display for Failure<'_> {
-    fn fmt<W: fmt::Write>(&self, f: &mut fmt::Formatter<W>) -> fmt::Result {
-        match self {
-            Failure::Usage(mistake) => write!(f, "{mistake}"),
-            Failure::File(unread) => write!(f, "{unread}"),
-            Failure::Output(error) => write!(f, "cannot go on: {error}"),
-        }
-    }
+    #[error(transparent)]
+    Usage(#[from] Mistake<'a>),
+    #[error(transparent)]
+    File(#[from] Unread<'a>),
+    #[error("cannot go on: {0}")]
+    Output(#[from] io::Error),
 }
 
 fn run_check<'a>(
@@ -67,19 +44,24 @@ fn run_check<'a>(
             Ok(Outcome::Accepted)
         }
         Err(fault) => {
-            print_refused(rt, &sheet, image.as_slice(), budgets.as_slice(), fault)?;
+            let explained = Explained {
+                sheet: &sheet,
+                image: image.as_slice(),
+                budgets: budgets.as_slice(),
+                fault,
+            };
+            println!(rt; "{explained}")?;
             Ok(Outcome::Refused)
         }
     }
 }
 
-pub fn run_words<'a>(rt: &HostRuntime, words: &[&'a str]) -> Result<Outcome, Failure<'a>> {
-    match parse(words)? {
-        Command::Help => {
+pub fn run_single<'a>(rt: &HostRuntime, single: Single<'a>) -> Result<Outcome, Failure<'a>> {
+    match single {
+        Single::Help => {
             print_help(rt, &sheet())?;
             Ok(Outcome::Helped)
         }
-        Command::Batch => Ok(Outcome::Batch),
-        Command::Check { image, budgets } => run_check(rt, image, budgets),
+        Single::Check { image, budgets } => run_check(rt, image, budgets),
     }
 }

@@ -1,8 +1,9 @@
-use Rattle.fraction.proofs.Divisors.{Same}
+use Rattle.std.proofs.Common.{ℕ}
+use Rattle.std.specs.Int.{IsGcd}
 use Rattle.fraction.proofs.fraction.greatest_divisor.Given as goal
 
 abbrev pub invariant-loop-small : goal.invariant-loop-small
-invariant-loop-small l = Same l.a l.b l.large l.small
+invariant-loop-small l = (d : ℕ) → IsGcd l.large l.small d → IsGcd l.a l.b d
 
 abbrev pub decreases-loop-small : goal.decreases-loop-small
 decreases-loop-small l = l.small
