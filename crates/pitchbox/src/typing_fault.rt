@@ -37,7 +37,7 @@ enum Break {
     },
 }
 
-// A line of a listing with those that it leads to: the next, and the one at its target.
+// A line of a listing with those that it leads to: the next, and the one at its target, with the address, if it names one.
 #[derive(Clone, Copy)]
 struct Step<'a> {
     sheet: &'a Sheet,
