@@ -1,6 +1,6 @@
 // The names of the pitch drive's parts, each list in the order of their numbers.
-use std::fmt;
 use ecode::set::has_member;
+use std::fmt;
 
 const PORTS: [&str; 8] = [
     "angle",

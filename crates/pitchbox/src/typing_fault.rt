@@ -118,7 +118,8 @@ fn demand(instruction: Instruction, task: u8) -> &'static str
         Instruction::Call { .. } =>
             "idle, or at the end of its window, since the driver uses its ports",
         Instruction::Release { .. } => "idle when it is released",
-        Instruction::Future { kept, .. } if has_member(u32::from(kept), task) => "held, since the future keeps it",
+        Instruction::Future { kept, .. } if has_member(u32::from(kept), task) =>
+            "held, since the future keeps it",
         Instruction::Future { .. } =>
             "idle, not held, or released with at least the wait remaining",
         Instruction::Return => "idle or not held at a return",
