@@ -55,7 +55,7 @@ pub enum Layer {
     Load,
 }
 
-// A refusal as the caller reads it. The place is a byte, an address or a task, by the number.
+// A refusal as the caller reads it. The place is a byte, an address or a task, by the number. Numbers and places are the C interface's.
 #[derive(Clone, Copy, PartialEq, Eq)]
 pub struct Refusal {
     pub number: u8,

@@ -19,7 +19,7 @@ fn lesser_window(t: u8, instruction: Instruction, best: u8) -> u8
     }
 }
 
-// The smallest window among the releases of task t, 0 if there is none.
+// The smallest window among the releases of task t, 0 if there is none: no Option, since the load sum's definition reads it so.
 pub fn least_window(listing: &Listing, t: u8) -> u8
     ensures { result ≡ window (lines_of listing.now) t }
 {
