@@ -2,7 +2,7 @@
 ghost use Rattle.std.specs.Prelude.{◌≡◌, ◌≤◌, length};
 
 // A driver port with the bounds that it is held within.
-#[derive(Clone, Copy)]
+#[derive(Clone, Copy, Default)]
 pub struct Stop {
     pub port: u8,
     pub low: i32,

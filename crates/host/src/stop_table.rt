@@ -7,13 +7,6 @@ use crate::stop::{Stop, StopTable};
 use ecode::port::PortKind;
 use ecode::sheet::Sheet;
 
-// What stands in a place that no stop has.
-const UNUSED: Stop = Stop {
-    port: 0,
-    low: 0,
-    high: 0,
-};
-
 // Whether the port is a driver port of the sheet.
 fn drives(sheet: &Sheet, port: u8) -> bool
     ensures { result ≡ is_driver_port sheet.now port }
@@ -33,7 +26,7 @@ impl StopTable {
         ensures { kept result ≡ [] }
     {
         StopTable {
-            stops: [UNUSED; 4],
+            stops: [Stop::default(); 4],
             count: 0,
         }
     }
