@@ -71,7 +71,7 @@ module _ {H P : Type 0} (meaning : H → Meaning) (ports : H → Ports) (mark : 
     over_answer = sym (answers m p rd s none takes (leaves m p (Tick rd None) s) ∙ ap (λ (x : State). ran_or_stopped x.stop (length x.log) x.running) is_over)
 
     pub over_asked : Asked (Choice (mark r.policy)) m (Tick rd None) (leaves m p (Tick rd None) s)
-    over_asked k e = absurd (let z : Some (stop.BudgetUsedUp t) ≡ None = sym (ap (λ (x : State). x.stop) is_over) ∙ e in let y : ◌≡◌ {A = ℕ} 0 1 = cc in omega arith)
+    over_asked k e = absurd (let z : Some (stop.BudgetUsedUp t) ≡ None = sym (ap (λ (x : State). x.stop) is_over) ∙ e in cc)
 
   -- none is: g is what the charge left
   module _ (g : Progress) (said : None ≡ exhausted (λ t. get_or r.bench.program.budgets t 0) slots s.running) (left : standing w v [] g ≡ after_charge None s) where
@@ -133,7 +133,7 @@ module _ {H P : Type 0} (meaning : H → Meaning) (ports : H → Ports) (mark : 
               ∙ sym (answers m p rd s none takes (leaves m p (Tick rd None) s) ∙ ap (λ (y : State). ran_or_stopped y.stop (length y.log) y.running) stays)
 
           pub stop_asked : Asked (Choice (mark r.policy)) m (Tick rd None) (leaves m p (Tick rd None) s)
-          stop_asked k e = absurd (let z : Some x ≡ None = sym (ap (λ (y : State). y.stop) stays ∙ whole_stop) ∙ e in let y : ◌≡◌ {A = ℕ} 0 1 = cc in omega arith)
+          stop_asked k e = absurd (let z : Some x ≡ None = sym (ap (λ (y : State). y.stop) stays ∙ whole_stop) ∙ e in cc)
 
         -- it did not, and the policy chose c
         module _ (c : Option ℕ) (going : g₂.stop ≡ None) where
