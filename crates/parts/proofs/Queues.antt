@@ -1,30 +1,13 @@
 -- The queue's list.
-use Rattle.std.proofs.Common.{◌≡◌, ℕ, zero, suc, ◌+◌, ◌-◌, ◌<◌, ◌≤◌, false, eqb, List, [], ◌∷◌, length, get_or, take, Some, None, sym, refl, ◌∙◌, inl, inr, arith, length-take, ext_get_or}
+use Rattle.std.proofs.Common.{◌≡◌, ℕ, zero, suc, ◌<◌, false, eqb, List, [], ◌∷◌, length, get_or, Some, None, sym, refl, ap, ◌∙◌, arith}
 use Rattle.std.specs.List.{remove}
-use Rattle.std.proofs.lemmas.Bool.{eq-eqb, ne_eqb, cases_lt}
-use Rattle.std.proofs.lemmas.List.{get_or-take}
-use Rattle.std.proofs.lemmas.List.Edits.{length-remove, get_or-remove_below, get_or-remove_above}
+use Rattle.std.proofs.lemmas.Bool.{eq-eqb, ne_eqb}
+use Rattle.std.proofs.lemmas.List.{get_or_default}
 use Rattle.machine.specs.declared.binding.Binding.{Binding}
 use Rattle.machine.specs.Runner.{first_due}
 
 abbrev pub none : Binding
 none = record { wait = 0; at = 0 }
-
--- what ys is when the values of xs from i on were moved down by one
-pub shifted : (xs ys : List Binding) (i n : ℕ) → i < n → n ≤ length xs → length ys ≡ length xs
-    → ((k : ℕ) → k < i → get_or ys k none ≡ get_or xs k none)
-    → ((k : ℕ) → i ≤ k → k + 1 < n → get_or ys k none ≡ get_or xs (k + 1) none)
-    → take (n - 1) ys ≡ remove (take n xs) i
-shifted xs ys i n lt le len low high =
-    let long : length (take n xs) ≡ n = simp length-take (omega arith) in
-    let ok : i < length (take n xs) = omega arith in
-    ext_get_or none (take (n - 1) ys) (remove (take n xs) i)
-    (simp length-take (omega (arith, length-remove (take n xs) i ok)))
-    (λ k h. let small : k < n - 1 = omega (arith, simp length-take at h) in
-    get_or-take (n - 1) ys k none small ∙ elim (cases_lt k i) [
-      | inl b ↦ low k b ∙ sym (get_or-remove_below (take n xs) i none k b ok ∙ get_or-take n xs k none (omega arith))
-      | inr b ↦ high k b (omega arith) ∙ sym (get_or-remove_above (take n xs) i none k b ok ∙ get_or-take n xs (k + 1) none (omega arith))
-    ])
 
 pub due_none : (q : List Binding) → ((k : ℕ) → k < length q → (get_or q k none).wait ≡ 0 → ⊥) → first_due q ≡ None
 due_none [] h = refl
@@ -41,3 +24,10 @@ due_found (b ∷ q) (suc i) l h e =
     let rest = due_found q i (omega arith) (λ k l. h (suc k) (omega arith)) e in
     let ne : eqb b.wait 0 ≡ false = ne_eqb b.wait 0 (h 0 (omega arith)) in
     rw (ne, rest)
+
+-- the same of a binding that was taken out at i
+pub due_taken : (q rest : List Binding) (i : ℕ) (b : Binding) → i < length q → ((k : ℕ) → k < i → (get_or q k none).wait ≡ 0 → ⊥) → (get_or q i none).wait ≡ 0
+    → b ≡ get_or q i b → rest ≡ remove q i → first_due q ≡ Some (record { address = b.at; others = rest })
+due_taken q rest i b lt waits due is left =
+    let same : get_or q i none ≡ b = get_or_default q i none b lt ∙ sym is in
+    due_found q i lt waits due ∙ ap (λ (x : Binding). Some (record { address = x.at; others = remove q i })) same ∙ ap (λ l. Some (record { address = b.at; others = l })) (sym left)

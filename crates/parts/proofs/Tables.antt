@@ -1,9 +1,9 @@
 -- The table of tasks as the reference runner has it.
-use Rattle.std.proofs.Common.{◌≡◌, ℕ, ◌+◌, ◌-◌, ◌<◌, ◌≤◌, Bool, true, false, cond, List, [], ◌∷◌, ◌++◌, map, length, get_or, take, replicate, is_some, Some, None, sym, refl, ap, ◌∙◌, inl, inr, append-nil, add-one, arith, length-append, length-take, get_or-take, ext_get_or}
+use Rattle.std.proofs.Common.{◌≡◌, ℕ, ◌+◌, ◌-◌, ◌<◌, ◌≤◌, Bool, true, false, cond, List, [], ◌∷◌, ◌++◌, map, length, get_or, replicate, is_some, Some, None, sym, refl, ap, ◌∙◌, inl, inr, add-one, arith, length-append, ext_get_or}
 use mathlib.Core.Path.{fun_ext}
 use lib.ListN.{length-map, length-replicate, get_or-replicate}
 use Rattle.std.proofs.lemmas.List.{get_or_append_left, get_or-append_right, get_or-map}
-use Rattle.std.proofs.lemmas.Bool.{cases_lt, cond-true, cond-false}
+use Rattle.std.proofs.lemmas.Bool.{cases_lt, cond-false}
 use Rattle.ecode.specs.Wiring.{has}
 use Rattle.policy.specs.declared.pending.PendingTask.{PendingTask}
 use Rattle.policy.specs.Choice.{nobody}
@@ -36,29 +36,29 @@ jobs_fallen ports f n few none slots e = fun_ext (λ t. elim (cases_lt t n) [
     fallen true s = refl
     fallen false s = refl
 
--- one task more in the list of those pending
-module _ (ports : ℕ) (f : TaskTable) (t : ℕ) where
-  pub one_pending : has f.pending t ≡ true
-      → pending_tasks (t + 1) (jobs ports f) ≡ pending_tasks t (jobs ports f) ++ (record { task = t; left = (get_or f.slots t no_slot).left } ∷ [])
-  one_pending e = ap (λ n. pending_tasks n (jobs ports f)) (add-one t) ∙ ap (λ o. pending_tasks t (jobs ports f) ++ entry_of t o) (cond-true (has f.pending t) _ _ e)
-
-  pub one_not_pending : has f.pending t ≡ false → pending_tasks (t + 1) (jobs ports f) ≡ pending_tasks t (jobs ports f)
-  one_not_pending e =
-      ap (λ n. pending_tasks n (jobs ports f)) (add-one t) ∙ ap (λ o. pending_tasks t (jobs ports f) ++ entry_of t o) (cond-false (has f.pending t) _ _ e)
-      ∙ append-nil (pending_tasks t (jobs ports f))
+-- one task more, listed if it is pending
+pub one_more : (ports : ℕ) (f : TaskTable) (t : ℕ) (b : Bool) → b ≡ is_pending (jobs ports f) t
+    → pending_tasks (t + 1) (jobs ports f) ≡ pending_tasks t (jobs ports f) ++ cond b (record { task = t; left = (get_or f.slots t no_slot).left } ∷ []) []
+one_more ports f t b e =
+    let s = get_or f.slots t no_slot in
+    ap (λ n. pending_tasks n (jobs ports f)) (add-one t)
+    ∙ ap (λ l. pending_tasks t (jobs ports f) ++ l) (listed (has f.pending t) s ∙ ap (λ b. cond b (record { task = t; left = s.left } ∷ []) []) (sym (e ∙ is_pending_has ports f t)))
+  where
+    listed : (b : Bool) (s : Slot) → entry_of t (cond b (Some (job ports s)) None) ≡ cond b (record { task = t; left = s.left } ∷ []) []
+    listed true s = refl
+    listed false s = refl
 
 -- what stands in eight bytes, place by place
-pub written_is : (items : List PendingTask) (n : ℕ) (bytes : List ℕ) → n ≤ 8 → n ≤ length items → length bytes ≡ 8
-    → ((k : ℕ) → k < n → get_or bytes k 0 ≡ (get_or items k nobody).task) → ((k : ℕ) → n ≤ k → k < 8 → get_or bytes k 0 ≡ 255)
-    → bytes ≡ written (map (λ e. e.task) (take n items))
-written_is items n bytes few many long first rest =
-    let numbers = map (λ (e : PendingTask). e.task) (take n items) in
-    let count : length numbers ≡ n = omega (arith, length-map (take n items) (λ (e : PendingTask). e.task), length-take n items) in
+pub written_is : (items : List PendingTask) (bytes : List ℕ) → length items ≤ 8 → length bytes ≡ 8
+    → ((k : ℕ) → k < length items → get_or bytes k 0 ≡ (get_or items k nobody).task) → ((k : ℕ) → length items ≤ k → k < 8 → get_or bytes k 0 ≡ 255)
+    → bytes ≡ written (map (λ e. e.task) items)
+written_is items bytes few long first rest =
+    let numbers = map (λ (e : PendingTask). e.task) items in
+    let count : length numbers ≡ length items = length-map items (λ (e : PendingTask). e.task) in
     ext_get_or 0 bytes (written numbers) (omega (arith, length-append numbers (replicate (8 - length numbers) 255), length-replicate {A = ℕ} (8 - length numbers) 255))
-    (λ k h. elim (cases_lt k n) [
+    (λ k h. elim (cases_lt k (length items)) [
       | inl l ↦
-          first k l ∙ sym (get_or_append_left numbers (replicate (8 - length numbers) 255) 0 k (omega arith)
-          ∙ get_or-map (λ (e : PendingTask). e.task) (take n items) k nobody 0 (omega (arith, length-take n items)) ∙ ap (λ (e : PendingTask). e.task) (get_or-take n items k nobody l))
+          first k l ∙ sym (get_or_append_left numbers (replicate (8 - length numbers) 255) 0 k (omega arith) ∙ get_or-map (λ (e : PendingTask). e.task) items k nobody 0 l)
       | inr l ↦
-          rest k l (omega arith) ∙ sym (get_or-append_right numbers (replicate (8 - length numbers) 255) n k 0 count l ∙ get_or-replicate (8 - length numbers) (k - n) 255 0 (omega arith))
+          rest k l (omega arith) ∙ sym (get_or-append_right numbers (replicate (8 - length numbers) 255) (length items) k 0 count l ∙ get_or-replicate (8 - length numbers) (k - length items) 255 0 (omega arith))
     ])

@@ -13,14 +13,6 @@ pub fn lowest_in(set: u8) -> Option<u8>
     Some(set.trailing_zeros() as u8)
 }
 
-// Whether t is a member.
-pub fn is_in(set: u8, t: u8) -> bool
-    requires { t < 8 }
-    ensures { result ≡ has set t }
-{
-    (set >> t) % 2 == 1
-}
-
 // The set with t.
 pub fn with_task(set: u8, t: u8) -> u8
     requires { t < 8 }

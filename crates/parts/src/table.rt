@@ -7,8 +7,10 @@ ghost use Rattle.machine.specs.Choices.{pending_tasks};
 ghost use Rattle.machine.specs.Calls.{pending_numbers};
 ghost use Rattle.parts.specs.Shown.{no_slot, one_less, jobs, Chargeable, written};
 
-use crate::data::{PendingList, Slot, TaskTable};
-use crate::sets::{is_in, lowest_in, with_task, without_task};
+use crate::data::{Slot, TaskTable};
+use crate::sets::{lowest_in, with_task, without_task};
+use arrayvec::ArrayVec;
+use ecode::set::has_member;
 use host::host::Host;
 use policy::PendingTask;
 
@@ -35,18 +37,9 @@ impl Slot {
     {
         self.left = window;
         self.used = 0;
-        for p in 0..ports {
-            self.taken[p as usize] = host.look(p);
+        for (p, taken) in self.taken[..ports as usize].iter_mut().enumerate() {
+            *taken = host.look(p as u8);
         }
-    }
-}
-
-// One tick less left for each of the slots.
-fn count_down_all(slots: &mut [Slot])
-    ensures { slots.new ≡ map one_less slots.old }
-{
-    for slot in slots.iter_mut() {
-        slot.count_down();
     }
 }
 
@@ -67,8 +60,9 @@ impl TaskTable {
         requires below { (t : ℕ) → tasks ≤ t → has self.old.pending t ≡ false }
         ensures { (ports : ℕ) → jobs ports self.new ≡ (λ t. one_less_left (jobs ports self.old t)) }
     {
-        let n = tasks as usize;
-        count_down_all(&mut self.slots[0..n]);
+        for slot in self.slots[0..tasks as usize].iter_mut() {
+            slot.count_down();
+        }
     }
 
     // The lowest pending task among a set.
@@ -80,13 +74,13 @@ impl TaskTable {
 
     // Whether task t is pending.
     pub fn is_pending(&self, t: u8) -> bool
-        requires { t < 8 }
         ensures { (ports : ℕ) → result ≡ is_pending (jobs ports self.now) t }
     {
-        is_in(self.pending, t)
+        has_member(u32::from(self.pending), t)
     }
 
     // Task t is pending from now on, with the ports of the host as they are.
+    // Their number comes beside the host, since a question for the host's sheet would copy all of it.
     pub fn release<H: Host>(&mut self, t: u8, window: u8, host: &H, ports: u8)
         requires low { t < 8 }
         requires ports { ports ≡ (H.Host.meaning host.now).sheet.ports }
@@ -103,13 +97,9 @@ impl TaskTable {
         ensures answer { (ports : ℕ) → result ≡ exhausted (λ t. slice_index budgets.now t) (charged (jobs ports self.old) running) running }
     {
         let task = running?;
-        let t = task as usize;
-        self.slots[t].used += 1;
-        if budgets[t] <= self.slots[t].used {
-            Some(task)
-        } else {
-            None
-        }
+        let slot = &mut self.slots[task as usize];
+        slot.used += 1;
+        (budgets[task as usize] <= slot.used).then_some(task)
     }
 
     // Task t is no longer pending.
@@ -121,22 +111,20 @@ impl TaskTable {
     }
 
     // The pending tasks below `tasks`, by rising number.
-    pub fn list(&self, tasks: u8) -> PendingList
+    pub fn list(&self, tasks: u8) -> ArrayVec<PendingTask, 8>
         requires { tasks ≤ 8 }
-        ensures { (ports : ℕ) → take result.len result.items ≡ pending_tasks tasks (jobs ports self.now) }
+        ensures { (ports : ℕ) → result.items ≡ pending_tasks tasks (jobs ports self.now) }
     {
-        let mut items = [PendingTask { task: 0, left: 0 }; 8];
-        let mut len = 0usize;
-        for t in 0..tasks {
-            if is_in(self.pending, t) {
-                items[len] = PendingTask {
-                    task: t,
-                    left: self.slots[t as usize].left,
-                };
-                len += 1;
+        let mut list = ArrayVec::new();
+        for (task, slot) in (0..tasks).zip(&self.slots) {
+            if self.is_pending(task) {
+                list.push(PendingTask {
+                    task,
+                    left: slot.left,
+                });
             }
         }
-        PendingList { items, len }
+        list
     }
 
     // Writes the numbers of the pending tasks below `tasks`, by rising number, and 255 in the rest.
@@ -146,8 +134,8 @@ impl TaskTable {
     {
         let list = self.list(tasks);
         *bytes = [255; 8];
-        for i in 0..list.len {
-            bytes[i] = list.items[i].task;
+        for (i, pending) in list.iter().enumerate() {
+            bytes[i] = pending.task;
         }
     }
 }

@@ -3,10 +3,11 @@ ghost use Rattle.std.specs.Prelude.{◌≡◌, ℕ, ◌<◌, ◌&&◌, length, n
 ghost use Rattle.ecode.specs.Wiring.{has};
 ghost use Rattle.ecode.specs.Sheets.{shares};
 ghost use Rattle.machine.specs.Runner.{kinds_of};
-ghost use Rattle.parts.specs.Wired.{sensors_from, sensed, WiredFor};
+ghost use Rattle.parts.specs.Wired.{sensors_from, WiredFor};
 
-use crate::data::{SensorPorts, Wiring};
+use crate::data::Wiring;
 use crate::sets::with_task;
+use arrayvec::ArrayVec;
 use ecode::port::PortKind;
 use ecode::sharing::sharing;
 use ecode::sheet::Sheet;
@@ -30,39 +31,34 @@ fn sharing_table(sheet: &Sheet) -> [u8; 32]
     ensures sharing { (d t : ℕ) → d < sheet.now.drivers → has (slice_index result d) t ≡ (nat_lt t sheet.now.tasks && shares sheet.now d t) }
 {
     let mut table = [0u8; 32];
-    for d in 0..sheet.drivers {
-        table[d as usize] = shared_tasks(sheet, d);
+    for (d, shared) in table.iter_mut().enumerate() {
+        *shared = shared_tasks(sheet, d as u8);
     }
     table
 }
 
 // The sensor ports, in port order.
-fn sensor_ports(sheet: &Sheet) -> SensorPorts
-    ensures { sensed result ≡ sensors_from 0 (kinds_of sheet.now) }
+fn sensor_ports(sheet: &Sheet) -> ArrayVec<u8, 32>
+    ensures { result.items ≡ sensors_from 0 (kinds_of sheet.now) }
 {
-    let mut items = [0u8; 32];
-    let mut len = 0usize;
-    for p in 0..sheet.ports {
-        let kind = sheet.kinds[p as usize];
-        if let PortKind::Sensor = kind {
-            items[len] = p;
-            len += 1;
+    let mut sensors = ArrayVec::new();
+    for (port, kind) in (0..sheet.ports).zip(&sheet.kinds) {
+        if *kind == PortKind::Sensor {
+            sensors.push(port);
         }
     }
-    SensorPorts { items, len }
+    sensors
 }
 
 impl Wiring {
     pub fn of(sheet: &Sheet) -> Wiring
         ensures { WiredFor sheet.now result }
     {
-        let sensors = sensor_ports(sheet);
-        let sharing = sharing_table(sheet);
         Wiring {
             ports: sheet.ports,
             tasks: sheet.tasks,
-            sensors,
-            sharing,
+            sensors: sensor_ports(sheet),
+            sharing: sharing_table(sheet),
         }
     }
 }

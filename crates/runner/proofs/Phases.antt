@@ -1,9 +1,10 @@
 -- The phases of a tick on a sound run: what each leaves, and what the tick then answers, by the reference runner.
-use Rattle.std.proofs.Common.{◌≡◌, ℕ, ◌-◌, ◌≤◌, Bool, true, false, List, [], length, get_or, take, ℤ, Some, None, Ok, Err, Option, sym, ap, ◌∙◌, subst, arith}
+use Rattle.std.proofs.Common.{◌≡◌, ℕ, ◌≤◌, Bool, true, false, List, [], length, get_or, ℤ, Some, None, Ok, Err, Option, sym, ap, ◌∙◌, subst, arith}
 use lib.ListN.{length-map}
 use Rattle.std.proofs.lemmas.Bool.{eq-eqb}
 use Rattle.ecode.specs.Verdict.{Contents}
 use Rattle.host.specs.Meaning.{Meaning, Lawful}
+use Rattle.policy.specs.declared.pending.PendingTask.{PendingTask}
 use Rattle.policy.specs.Choice.{Choice}
 use Rattle.machine.specs.declared.stop.Stop.{Stop}
 use Rattle.machine.specs.declared.stop.Stop.TheVariants as stop
@@ -13,7 +14,6 @@ use Rattle.machine.specs.Runner.{charged, exhausted, one_less_wait, kinds_of, op
 use Rattle.machine.specs.Choices.{pending_tasks}
 use Rattle.machine.specs.Calls.{Tick, counts, sensor_count, leaves, fault_of, ran_or_stopped, tick_answer, Asked}
 use Rattle.machine.proofs.Reached.{Steady}
-use Rattle.parts.specs.declared.data.PendingList.{PendingList}
 use Rattle.parts.specs.declared.data.Wiring.{Wiring}
 use Rattle.parts.specs.Shown.{queued, jobs}
 use Rattle.runner.specs.declared.bench.Bench.{Bench}
@@ -27,7 +27,7 @@ use Rattle.runner.proofs.Turns.{size_is}
 use Rattle.runner.proofs.Ticks.{sensors_long, ticks, answers, used_up, goes, exhausted_same, charged_pending, none_beyond, inside_fallen, closed_stopped, closed_going, stopped_answer, ran_answer}
 
 module _ {H P : Type 0} (meaning : H → Meaning) (ports : H → Ports) (mark : P → Bool) (lawful : (h : H) → Lawful (meaning h))
-    (r : Run H P) (sound : SoundRun meaning ports mark r) (rd : List ℤ) (none : r.progress.stop ≡ None) (enough : length rd ≡ r.bench.wiring.sensors.len) where
+    (r : Run H P) (sound : SoundRun meaning ports mark r) (rd : List ℤ) (none : r.progress.stop ≡ None) (enough : length rd ≡ length r.bench.wiring.sensors.items) where
   abbrev m : Meaning
   m = meaning r.bench.host
 
@@ -149,11 +149,10 @@ module _ {H P : Type 0} (meaning : H → Meaning) (ports : H → Ports) (mark : 
               ∙ sym (answers m p rd s none takes (leaves m p (Tick rd c) s) ∙ ap (λ (y : State). ran_or_stopped y.stop (length y.log) y.running) goes_on)
 
           -- the policy was told the pending tasks
-          pub ran_asked : SameBench meaning r.bench b₂ → (list : PendingList) → take list.len list.items ≡ pending_tasks b₂.wiring.tasks (jobs b₂.wiring.ports g₂.table)
-              → Choice (mark r.policy) (take (list.len - 0) list.items) c → Asked (Choice (mark r.policy)) m (Tick rd c) (leaves m p (Tick rd c) s)
+          pub ran_asked : SameBench meaning r.bench b₂ → (list : List PendingTask) → list ≡ pending_tasks b₂.wiring.tasks (jobs b₂.wiring.ports g₂.table)
+              → Choice (mark r.policy) list c → Asked (Choice (mark r.policy)) m (Tick rd c) (leaves m p (Tick rd c) s)
           ran_asked kept list told choice k e =
-              let all : list.len - 0 ≡ list.len = omega arith in
-              let told_all : take (list.len - 0) list.items ≡ pending_tasks m.sheet.tasks (leaves m p (Tick rd c) s).pending =
-              ap (λ j. take j list.items) all ∙ told ∙ ap (λ j. pending_tasks j (jobs b₂.wiring.ports g₂.table)) (ap (λ (w : Wiring). w.tasks) kept.wiring ∙ sound.bench.wired.tasks)
+              let told_all : list ≡ pending_tasks m.sheet.tasks (leaves m p (Tick rd c) s).pending =
+              told ∙ ap (λ j. pending_tasks j (jobs b₂.wiring.ports g₂.table)) (ap (λ (w : Wiring). w.tasks) kept.wiring ∙ sound.bench.wired.tasks)
               ∙ ap (pending_tasks m.sheet.tasks) (ap (λ (y : State). y.pending) came ∙ sym (ap (λ (y : State). y.pending) goes_on)) in
               subst (λ l. Choice (mark r.policy) l c) told_all choice

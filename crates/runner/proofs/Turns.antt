@@ -23,7 +23,6 @@ use Rattle.runner.specs.Sound.{loaded, SoundBench}
 use Rattle.runner.specs.Turns.{Room, Touch, OnlyTouch}
 use Rattle.runner.specs.declared.progress.Progress.{Progress}
 use Rattle.parts.specs.declared.data.Queue.{Queue}
-use Rattle.parts.specs.Shown.{queued}
 use Rattle.machine.specs.declared.stop.Stop.{Stop}
 use Rattle.machine.specs.declared.stop.Stop.TheVariants.{Touched}
 
@@ -102,9 +101,6 @@ call_touches s w r few d l f =
 
 pub room_at : (n : ℕ) (j : Instruction) (x y k : ℕ) → Room n j → j ≡ Future x y k → n < 8
 room_at n j x y k r e = subst (Room n) e r
-
-pub queue_long : (q : Queue) → length (queued q) ≡ q.len
-queue_long q = simp length-take (omega arith)
 
 -- the same with another queue
 abbrev pub requeued : Progress → Queue → Progress

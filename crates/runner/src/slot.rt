@@ -32,7 +32,6 @@ impl Progress {
     pub fn open<H: Host>(&mut self, bench: &mut Bench<H>, readings: &[i32])
         requires bench { SoundBench H.Host.meaning bench.old }
         requires going { self.old.stop ≡ None }
-        requires enough { length readings.now ≡ bench.old.wiring.sensors.len }
         requires below { (t : ℕ) → bench.old.wiring.tasks ≤ t → is_pending (jobs bench.old.wiring.ports self.old.table) t ≡ false }
         ensures after { (l : List Event) → working H.Host.ports bench.new [] self.new ≡ opening (H.Host.meaning bench.old.host) readings.now (working H.Host.ports bench.old l self.old) (jobs bench.old.wiring.ports self.old.table) }
         ensures same { SameBench H.Host.meaning bench.old bench.new }

@@ -17,7 +17,7 @@ impl Progress {
     fn step<H: Host>(&mut self, bench: &mut Bench<H>, at: u16) -> Flow
         requires bench { SoundBench H.Host.meaning bench.old }
         requires within { at < bench.old.program.listing.count }
-        requires room { Room self.old.queue.len (instruction_at (loaded bench.old) at) }
+        requires room { Room (length (queued self.old.queue)) (instruction_at (loaded bench.old) at) }
         ensures turn { (l : List Event) → record { state = working H.Host.ports bench.new (step (H.Host.meaning bench.old.host) (loaded bench.old) at (working H.Host.ports bench.old l self.old)).state.log self.new; next = next_of result } ≡ step (H.Host.meaning bench.old.host) (loaded bench.old) at (working H.Host.ports bench.old l self.old) }
         ensures same { SameBench H.Host.meaning bench.old bench.new }
         ensures told { Tells result self.old.stop self.new.stop }

@@ -25,7 +25,7 @@ impl<H: Host, P: Policy> Run<H, P> {
             return Err(RunFault::AfterStop { task: stop.task() });
         }
         let given = readings.len();
-        if given != self.bench.wiring.sensors.len {
+        if given != self.bench.wiring.sensors.len() {
             return Err(RunFault::Readings { given });
         }
         if let Some(task) = self.progress.charge(&self.bench.program.budgets) {
@@ -37,7 +37,7 @@ impl<H: Host, P: Policy> Run<H, P> {
             return Err(RunFault::from(stop));
         }
         let pending = self.progress.table.list(self.bench.wiring.tasks);
-        let running = self.policy.choose(&pending.items[0..pending.len]);
+        let running = self.policy.choose(&pending);
         self.progress.running = running;
         Ok(Ticked {
             instructions,

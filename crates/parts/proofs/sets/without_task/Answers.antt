@@ -1,18 +1,23 @@
--- The members of a meet: past the eight tasks a byte has none.
-use Rattle.std.proofs.Common.{◌≡◌, ◌-◌, ◌*◌, ◌%◌, ◌^◌, not, ◌&&◌, eqb, sym, ap, ◌∙◌, inl, inr, arith}
-use Rattle.std.proofs.lemmas.Nat.{one_shl}
-use Rattle.std.proofs.lemmas.Bool.{cases_lt, and_left, and_right}
+-- One member less, and the others as they were: past the eight tasks a byte has none.
+use Rattle.std.proofs.Common.{◌≡◌, ◌-◌, ◌*◌, ◌%◌, ◌^◌, false, not, ◌&&◌, eqb, w8, sym, ap, ◌∙◌, inl, inr, arith}
+use lib.Bits.{bit_and}
+use Rattle.std.proofs.lemmas.Bool.{cases_eq, cases_lt, eq-eqb, ne_eqb, and_left, and_right}
+use Rattle.std.proofs.lemmas.Nat.Bits.{bit_at_above, bit_at_clear_same, bit_at_clear_other}
 use Rattle.ecode.specs.Wiring.{has}
-use Rattle.parts.proofs.Bits.{has_and, has_others, none_from, and_swap}
+use Rattle.parts.proofs.Bits.{has_and}
 use Rattle.parts.proofs.sets.without_task.Goals as goal
 
 pub returns : goal.returns
 returns c k =
     let set = c.args.set in
     let t = c.args.t in
-    let bit : 255 - (1 * 2 ^ t) % 256 ≡ 255 - 2 ^ t = omega (arith, one_shl t 8 c.requires) in
-    has_and set (255 - (1 * 2 ^ t) % 256) k ∙ ap (λ z. has set k && has z k) bit
-    ∙ elim (cases_lt k 8) [
-      | inl l ↦ ap (λ b. has set k && b) (has_others t k c.requires l) ∙ and_swap (has set k) (not (eqb k t))
-      | inr l ↦ let e = none_from set 8 k (omega arith) l in and_left (has set k) (has (255 - 2 ^ t) k) e ∙ sym (and_right (not (eqb k t)) (has set k) e)
+    let others = 255 - (1 * 2 ^ t) % 256 in
+    elim (cases_eq k t) [
+      | inl e ↦ ap (has (bit_and set others)) e ∙ ap (λ n. eqb n 1) (bit_at_clear_same w8 set t c.requires) ∙ sym (and_left (not (eqb k t)) (has set k) (ap not (eq-eqb k t e)))
+      | inr ne ↦ elim (cases_lt k 8) [
+        | inl l ↦ ap (λ n. eqb n 1) (bit_at_clear_other w8 set t c.requires k l ne) ∙ sym (ap (λ b. not b && has set k) (ne_eqb k t ne))
+        | inr l ↦
+            let none : has set k ≡ false = ap (λ n. eqb n 1) (bit_at_above set 8 k (omega arith) l) in
+            has_and set others k ∙ and_left (has set k) (has others k) none ∙ sym (and_right (not (eqb k t)) (has set k) none)
+      ]
     ]

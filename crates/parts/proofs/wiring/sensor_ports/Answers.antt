@@ -1,31 +1,23 @@
 -- Port by port, those that are sensors.
-use Rattle.std.proofs.Common.{◌+◌, ◌<◌, [], ◌∷◌, ◌++◌, length, get_or, take, sym, ap, ◌∙◌, append-nil, arith, length-set}
-use Rattle.std.proofs.lemmas.List.{take_more_set}
-use Rattle.ecode.specs.declared.port.PortKind.TheVariants.{Sensor}
-use Rattle.parts.specs.Wired.{sensor_at, sensors_from}
-use Rattle.parts.proofs.Feeds.{sensors_take, no_sensor}
+use Rattle.std.proofs.Common.{length, ap, append-nil, arith}
+use Rattle.parts.proofs.Feeds.{sensor_kept, sensors_more}
 use Rattle.parts.proofs.wiring.sensor_ports.Goals as goal
-use Rattle.parts.proofs.wiring.sensor_ports.Goals.{in-Sensor, in_default}
 
-pub loop-p-preserved : goal.loop-p-preserved
-loop-p-preserved c =
-    let ks = c.args.sheet.now.kinds in
-    let items = c.loop-p.items in
-    let n = c.loop-p.len in
-    let p = c.loop-p.p in
-    let lt : p < length ks = omega arith in
-    let more = sensors_take ks p Sensor lt in
-    elim c.match-kind.branch [
-      | in-Sensor w ↦ (
-        omega (arith, w.len-is),
-        ap length w.items-is ∙ length-set _ _ _ ∙ c.loop-p.invariant.1,
-        ap (λ k. take k c.match-kind.items) w.len-is ∙ ap (λ l. take (n + 1) l) w.items-is ∙ take_more_set items n p (omega arith)
-            ∙ ap (λ l. l ++ (p ∷ [])) c.loop-p.invariant.2 ∙ sym (more ∙ ap (λ k. sensors_from 0 (take p ks) ++ sensor_at k p) w.in-Sensor.is),
-      )
-      | in_default w ↦ (
-        omega (arith, w.len-is),
-        ap length w.items-is ∙ c.loop-p.invariant.1,
-        ap (λ l. take c.match-kind.len l) w.items-is ∙ ap (λ k. take k items) w.len-is ∙ c.loop-p.invariant.2
-            ∙ sym (more ∙ ap (λ l. sensors_from 0 (take p ks) ++ l) (no_sensor (get_or ks p Sensor) p w.in_default.not-Sensor) ∙ append-nil _),
-      )
-    ]
+pub loop-port-preserved-then-eq : goal.loop-port-preserved-then-eq
+loop-port-preserved-then-eq c =
+    let old = c.loop-port.port-iterator in
+    let new = c.next.new.self in
+    let steps = c.in-Some.ensures.steps in
+    let kept = sensor_kept c.in-Some.kind.now old.a.start _ c.if-eq.ensures in
+    let more = sensors_more c.loop-port.sensors.items old.a.start old.a.end c.in-Some.kind.now new.b.rest.now (omega arith) in
+    ((tt, tt), tt, omega (arith, c.push.ensures.len), omega (arith, ap length steps.1), cc)
+
+pub loop-port-preserved : goal.loop-port-preserved
+loop-port-preserved c =
+    let old = c.loop-port.port-iterator in
+    let new = c.next.new.self in
+    let steps = c.in-Some.ensures.steps in
+    let kept = sensor_kept c.in-Some.kind.now old.a.start _ c.if-eq.ensures in
+    let none = append-nil c.loop-port.sensors.items in
+    let more = sensors_more c.loop-port.sensors.items old.a.start old.a.end c.in-Some.kind.now new.b.rest.now (omega arith) in
+    ((tt, tt), tt, omega arith, omega (arith, ap length steps.1), cc)

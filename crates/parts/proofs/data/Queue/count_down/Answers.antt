@@ -1,19 +1,16 @@
--- The bindings in use, each in its turn; the rest stay.
-use Rattle.std.proofs.Common.{length, take, ap, ◌∙◌, arith}
+-- Each binding in its turn.
+use Rattle.std.proofs.Common.{◌<◌, length, get_or, set, ap, ◌∙◌, arith}
 use Rattle.machine.specs.Runner.{one_less_wait}
-use Rattle.parts.proofs.Maps.{front_upto, length_upto, take_upto}
+use Rattle.parts.proofs.Queues.{none}
+use Rattle.parts.proofs.Maps.{upto_more}
 use Rattle.parts.proofs.data.Queue.count_down.Goals as goal
 
-pub invariant_of-self : goal.invariant_of-self
-invariant_of-self c =
-    let q = c.args.self.now in
-    record {
-      wide = ap length (front_upto one_less_wait q.len q.items c.wait_less_all.new.bindings c.wait_less_all.ensures) ∙ length_upto one_less_wait q.len q.items ∙ q.wide;
-      few = q.few;
-    }
-
-pub returns : goal.returns
-returns c =
-    let q = c.args.self.now in
-    ap (take q.len) (front_upto one_less_wait q.len q.items c.wait_less_all.new.bindings c.wait_less_all.ensures)
-    ∙ take_upto one_less_wait q.len q.items (omega arith)
+pub loop-binding-preserved : goal.loop-binding-preserved
+loop-binding-preserved c =
+    let old = c.deref_mut-binding-items.result.now in
+    let i = c.loop-binding.binding-index in
+    let now = c.loop-binding.binding-items in
+    let lt : i < length old = omega arith in
+    ap (λ w. set now i (record { wait = w; at = (get_or now i none).at })) c.saturating_sub-binding.ensures
+    ∙ ap (λ l. set l i (one_less_wait (get_or l i none))) c.loop-binding.invariant
+    ∙ upto_more one_less_wait old i none lt

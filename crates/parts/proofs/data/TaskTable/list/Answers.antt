@@ -1,33 +1,36 @@
 -- Task by task, those that are pending.
-use Rattle.std.proofs.Common.{◌≡◌, ◌+◌, [], ◌∷◌, ◌++◌, length, get_or, take, sym, ap, ◌∙◌, arith, length-set}
-use Rattle.std.proofs.lemmas.List.{take_more_set}
-use Rattle.machine.specs.Choices.{pending_tasks}
-use Rattle.parts.specs.Shown.{no_slot, jobs}
-use Rattle.parts.proofs.Tables.{one_pending, one_not_pending}
+use Rattle.std.proofs.Common.{true, false, append-nil, arith}
+use Rattle.std.proofs.lemmas.List.{drop_more}
+use Rattle.parts.specs.Shown.{no_slot}
+use Rattle.parts.proofs.Tables.{one_more}
 use Rattle.parts.proofs.data.TaskTable.list.Goals as goal
-use Rattle.parts.proofs.data.TaskTable.list.Goals.{then-is_in, else-is_in}
 
-pub loop-t-preserved : goal.loop-t-preserved
-loop-t-preserved c =
+pub loop-task-preserved-then-is_pending : goal.loop-task-preserved-then-is_pending
+loop-task-preserved-then-is_pending c =
     let f = c.args.self.now in
-    let items = c.loop-t.items in
-    let n = c.loop-t.len in
-    let t = c.loop-t.t in
-    elim c.if-is_in.branch [
-      | then-is_in w ↦ (
-        omega (arith, w.len-is),
-        ap length w.items-is ∙ length-set _ _ _ ∙ c.loop-t.invariant.1,
-        λ ports. ap (λ k. take k c.if-is_in.items) w.len-is ∙ ap (λ l. take (n + 1) l) w.items-is ∙ take_more_set items n _ (omega arith)
-            ∙ ap (λ l. l ++ (record { task = t; left = (get_or f.slots t no_slot).left } ∷ [])) (c.loop-t.invariant.2 ports) ∙ sym (one_pending ports f t (sym w.if-is_in.ensures)),
-      )
-      | else-is_in w ↦ (
-        omega (arith, w.len-is),
-        ap length w.items-is ∙ c.loop-t.invariant.1,
-        λ ports. ap (λ l. take c.if-is_in.len l) w.items-is ∙ ap (λ k. take k items) w.len-is ∙ c.loop-t.invariant.2 ports ∙ sym (one_not_pending ports f t (sym w.if-is_in.ensures)),
-      )
-    ]
+    let old = c.loop-task.task-iterator in
+    let steps = c.in-Some.ensures.steps in
+    let at = drop_more f.slots old.a.start no_slot (omega arith) in (
+      (tt, tt),
+      tt,
+      omega (arith, c.push.ensures.len),
+      omega arith,
+      cc,
+      cc,
+      λ ports. let more = one_more ports f c.in-Some.task true (c.if-is_pending.ensures ports) in let before = c.loop-task.invariant.6 ports in cc,
+    )
 
-pub returns : goal.returns
-returns c ports =
-    let all : c.loop-t.t ≡ c.args.tasks = omega arith in
-    c.loop-t.invariant.2 ports ∙ ap (λ n. pending_tasks n (jobs ports c.args.self.now)) all
+pub loop-task-preserved : goal.loop-task-preserved
+loop-task-preserved c =
+    let f = c.args.self.now in
+    let old = c.loop-task.task-iterator in
+    let steps = c.in-Some.ensures.steps in
+    let at = drop_more f.slots old.a.start no_slot (omega arith) in (
+      (tt, tt),
+      tt,
+      omega arith,
+      omega arith,
+      cc,
+      cc,
+      λ ports. let more = one_more ports f c.in-Some.task false (c.if-is_pending.ensures ports) in let none = append-nil c.loop-task.list.items in let before = c.loop-task.invariant.6 ports in cc,
+    )

@@ -1,8 +1,14 @@
-use Rattle.std.proofs.Common.{◌≡◌, ℕ, ◌≤◌, length, take}
+use Rattle.std.proofs.Common.{◌≡◌, ℕ, ◌≤◌, length, drop}
 use Rattle.machine.specs.Choices.{pending_tasks}
 use Rattle.parts.specs.Shown.{jobs}
 use Rattle.parts.proofs.data.TaskTable.list.Given as goal
 
-abbrev pub invariant-loop-t : goal.invariant-loop-t
-invariant-loop-t l = (l.len ≤ l.t) × (length l.items ≡ 8)
-    × ((ports : ℕ) → take l.len l.items ≡ pending_tasks l.t (jobs ports l.self))
+abbrev pub invariant-loop-task : goal.invariant-loop-task
+invariant-loop-task l =
+    (goal.iterator-loop-task).can_next l.task-iterator
+    × (goal.iterator-loop-task).is_finite l.task-iterator
+    × (length l.list.items ≤ l.task-iterator.a.start)
+    × (l.task-iterator.a.start ≤ l.tasks)
+    × (l.task-iterator.a.end ≡ l.tasks)
+    × (l.task-iterator.b.rest.now ≡ drop l.task-iterator.a.start l.self.slots)
+    × ((ports : ℕ) → l.list.items ≡ pending_tasks l.task-iterator.a.start (jobs ports l.self))

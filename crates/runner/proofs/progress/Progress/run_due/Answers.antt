@@ -8,14 +8,14 @@ use Rattle.ecode.specs.Accepted.{Aimed}
 use Rattle.runner.specs.Sound.{loaded, working}
 use Rattle.runner.proofs.Sounds.{unchanged, both_same, same_program, bench_kept, same_count}
 use Rattle.runner.specs.Turns.{Room, OnlyTouch}
-use Rattle.runner.proofs.Turns.{size_is, queue_long, requeued, touch_only}
+use Rattle.runner.proofs.Turns.{size_is, requeued, touch_only}
 use Rattle.runner.proofs.Threads.{Left, drawn, room_here, goes_on, comes_back, threads_none, threads_stopped, whole_from, recount, Stepped, queue_stepped, moved}
 use Rattle.runner.proofs.progress.Progress.run_due.Goals as goal
 
 pub due-init : goal.due-init
 due-init g c =
     let q = c.args.self.now.queue in
-    (unchanged g.H.Host.meaning c.args.bench.now, c.requires.going, c.requires.inside, omega (arith, due_few (queued q), queue_long q), record { turns = length (queued q); log = []; enough = due_few (queued q); count = refl; same = refl })
+    (unchanged g.H.Host.meaning c.args.bench.now, c.requires.going, c.requires.inside, omega (arith, due_few (queued q), q.few), record { turns = length (queued q); log = []; enough = due_few (queued q); count = refl; same = refl })
 
 pub loop-next-init : goal.loop-next-init
 loop-next-init g c =
@@ -41,10 +41,9 @@ step-requires g c =
     record {
       bench = bench_kept M b b₁ inv.0 c.requires.bench;
       within = omega (arith, inv.2, same_count M b b₁ inv.0);
-      room = subst (λ q. Room c.loop-next.self.queue.len (instruction_at q c.loop-next.at)) (sym (same_program M b b₁ inv.0))
-          (subst (λ n. Room n (instruction_at p c.loop-next.at)) (queue_long c.loop-next.self.queue)
+      room = subst (λ q. Room (length (queued c.loop-next.self.queue)) (instruction_at q c.loop-next.at)) (sym (same_program M b b₁ inv.0))
           (room_here m p v₀ v₁ v c.loop-next.at c.in-Some.first c.due.count (c.loop-next.count - c.due.count) whole left due.1 c.in-Some.ensures (λ k. refl) inv.7
-          (omega (arith, inv.2, size_is b.wiring b.program)) c.requires.room));
+          (omega (arith, inv.2, size_is b.wiring b.program)) c.requires.room);
     }
 
 pub loop-next-preserved : goal.loop-next-preserved

@@ -10,8 +10,8 @@ use Rattle.runner.proofs.Ticks.{sensors_long, refused, refuses, chargeable, stop
 use Rattle.runner.proofs.Phases.{over_state, over_answer, over_asked, still_going, still_below, no_stop, queue_inside, whole_is, room, stop_state, stop_answer, stop_asked, ran_state, ran_answer_is, ran_asked}
 use Rattle.runner.proofs.run.Run.tick.Goals as goal
 
-pub returns-then-given-self : goal.returns-then-given-self
-returns-then-given-self g c =
+pub returns-then-given-len : goal.returns-then-given-len
+returns-then-given-len g c =
     let M = g.H.Host.meaning in
     let ports = g.H.Host.ports in
     let mark = g.P.Policy.mark in
@@ -24,7 +24,7 @@ returns-then-given-self g c =
     let m = M r.bench.host in
     let p = loaded r.bench in
     let s = shown ports r in
-    let off : counts m rd ≡ false = ne_eqb (length rd) (sensor_count (kinds_of m.sheet)) (λ e. c.if-given-self.true (e ∙ sym (sensors_long m.sheet w c.requires.bench.wired))) in
+    let off : counts m rd ≡ false = ne_eqb (length rd) (sensor_count (kinds_of m.sheet)) (λ e. c.if-given-len.true (e ∙ sym (sensors_long m.sheet w c.requires.bench.wired) ∙ sym c.len.ensures.value)) in
     record {
       answer = sym (refuses m p rd s none off (leaves m p (Tick rd None) s));
       follows = follows M ports mark law r c.requires (Tick rd None) r (unchanged M r.bench) refl (sym (ap bare (refused m p rd s none off None))) (λ k e. absurd (both_ways (counts m rd) off k));
@@ -56,7 +56,7 @@ returns-in-Some-charge g c =
     let rd = c.args.readings.now in
     let v = ports r.bench.host in
     let none = c.in_default.is in
-    let all = c.if-given-self.false in
+    let all = c.if-given-len.false ∙ c.len.ensures.value in
     let t = c.in-Some-charge.task in
     let g₀ = c.charge.new.self in
     let es = c.in-Some-charge.ensures in
@@ -80,7 +80,7 @@ open-requires g c =
     let rd = c.args.readings.now in
     let v = ports r.bench.host in
     let none = c.in_default.is in
-    let all = c.if-given-self.false in
+    let all = c.if-given-len.false ∙ c.len.ensures.value in
     let g₀ = c.charge.new.self in
     let es = c.in_default-charge.ensures in
     let said = es.answer w.ports in
@@ -88,7 +88,6 @@ open-requires g c =
     record {
       bench = c.requires.bench;
       going = still_going M ports mark law r c.requires rd none all g₀ said left;
-      enough = all;
       below = still_below M ports mark law r c.requires rd none all g₀ said left;
     }
 
@@ -103,7 +102,7 @@ run_due-instructions-requires g c =
     let rd = c.args.readings.now in
     let v = ports r.bench.host in
     let none = c.in_default.is in
-    let all = c.if-given-self.false in
+    let all = c.if-given-len.false ∙ c.len.ensures.value in
     let g₀ = c.charge.new.self in
     let es = c.in_default-charge.ensures in
     let said = es.answer w.ports in
@@ -131,7 +130,7 @@ returns-in-Some-stop g c =
     let rd = c.args.readings.now in
     let v = ports r.bench.host in
     let none = c.in_default.is in
-    let all = c.if-given-self.false in
+    let all = c.if-given-len.false ∙ c.len.ensures.value in
     let g₀ = c.charge.new.self in
     let es = c.in_default-charge.ensures in
     let said = es.answer w.ports in
@@ -169,7 +168,7 @@ returns g c =
     let rd = c.args.readings.now in
     let v = ports r.bench.host in
     let none = c.in_default.is in
-    let all = c.if-given-self.false in
+    let all = c.if-given-len.false ∙ c.len.ensures.value in
     let g₀ = c.charge.new.self in
     let es = c.in_default-charge.ensures in
     let said = es.answer w.ports in
@@ -187,12 +186,12 @@ returns g c =
     let o = c.choose-running.result in
     let n = c.run_due-instructions.result in
     let going = c.in_default-stop.is in
-    let list = c.list-pending.result in
+    let list = c.deref.result.now in
     record {
       answer = ran_answer_is M ports mark law r c.requires rd none all g₀ said left b₁ g₁ same opens b₂ g₂ n came counted o going;
       follows = follows M ports mark law r c.requires (Tick rd o) _ kept c.choose-running.ensures.same_mark
           (ran_state M ports mark law r c.requires rd none all g₀ said left b₁ g₁ same opens b₂ g₂ n came counted o going)
-          (ran_asked M ports mark law r c.requires rd none all g₀ said left b₁ g₁ same opens b₂ g₂ n came counted o going kept list (c.list-pending.ensures b₂.wiring.ports) c.choose-running.ensures.choice);
+          (ran_asked M ports mark law r c.requires rd none all g₀ said left b₁ g₁ same opens b₂ g₂ n came counted o going kept list (c.deref.ensures.0 ∙ c.list-pending.ensures b₂.wiring.ports) c.choose-running.ensures.choice);
       untouched = tt;
       unasked = tt;
     }
