@@ -10,28 +10,24 @@ use Rattle.runner.proofs.progress.Progress.step.Goals as goal
 
 pub bounds-bench-driver : goal.bounds-bench-driver
 bounds-bench-driver g c =
-    let b = c.args.bench.now in
     let a = c.args.at in
     let k = read g.met.H.Host.lawful c.requires.bench a c.requires.within (Call c.in-Call.driver) c.in-Call.is in
     omega (arith, ranged k, k.lawful.rules.few_drivers)
 
 pub is_pending-requires : goal.is_pending-requires
 is_pending-requires g c =
-    let b = c.args.bench.now in
     let a = c.args.at in
     let k = read g.met.H.Host.lawful c.requires.bench a c.requires.within (Release c.in-Release.task c.in-Release.window) c.in-Release.is in
     omega (arith, (ranged k).0, k.lawful.rules.few_tasks)
 
 pub release-requires : goal.release-requires
 release-requires g c =
-    let b = c.args.bench.now in
     let a = c.args.at in
     let k = read g.met.H.Host.lawful c.requires.bench a c.requires.within (Release c.in-Release.task c.in-Release.window) c.in-Release.is in
     record { low = omega (arith, (ranged k).0, k.lawful.rules.few_tasks); ports = c.requires.bench.wired.ports }
 
 pub push-requires : goal.push-requires
 push-requires g c =
-    let b = c.args.bench.now in
     let a = c.args.at in
     let k = read g.met.H.Host.lawful c.requires.bench a c.requires.within (Future c.in-Future.wait c.in-Future.to c.in-Future.kept) c.in-Future.is in
     room_at _ _ _ _ _ c.requires.room k.is
