@@ -99,7 +99,7 @@ own_on z i (x ∷ v) w (suc p) k e =
     own_on z (i + 1) v w p (omega arith) (ap (has z) q ∙ e) ∙ ap (reading w) q
 
 pub apart : {x : PortKind} → x ≡ Driver → x ≡ Task → ⊥
-apart e f = let z : ◌≡◌ {A = ℕ} 0 1 = cc in omega arith
+apart e f = cc
 
 module _ (m : Meaning) (ok : Lawful m) where
   driver_unowned : (p : ℕ) → kind m.sheet p ≡ Driver → Unowned m p
@@ -113,10 +113,7 @@ module _ (m : Meaning) (ok : Lawful m) where
   quiet t p i e =
       let r = ok.rules.owned t p i in
       let g = get_or-take m.sheet.ports m.sheet.kinds p Sensor r.0 in
-      let z : ◌≡◌ {A = ℕ} 0 1 = clash (sym r.1 ∙ sym g ∙ e) in omega arith
-    where
-      clash : ◌≡◌ {A = PortKind} Task Sensor → ◌≡◌ {A = ℕ} 0 1
-      clash e = cc
+      cc
 
   -- some task owns the port, or none does
   owner : (p : ℕ) → ((t : ℕ) × (t < m.sheet.tasks) × In p (own m t)) ⊎ Unowned m p
@@ -180,7 +177,7 @@ module _ (m : Meaning) (ok : Lawful m) where
   -- what is not pending has nothing taken, and the other way
   taken_none : (o : Option Job) → taken_by o ≡ None → o ≡ None
   taken_none None e = refl
-  taken_none (Some k) e = absurd (let z : ◌≡◌ {A = ℕ} 0 1 = cc in omega arith)
+  taken_none (Some k) e = cc
 
   still_off : (f : Table) (i : Option ℕ) (t : ℕ) → f t ≡ None → one_less_left (charged f i t) ≡ None
   still_off f i t e = taken_none (one_less_left (charged f i t)) (taken_less (charged f i t) ∙ taken_charged f i t ∙ ap taken_by e)
@@ -252,7 +249,7 @@ module _ (m : Meaning) (ok : Lawful m) where
       other g u t k = let n : eqb t x ≡ false = ne_eqb t x (λ e. omega arith) in rw n
 
       free : (g : Table) (y : Bool) → is_pending g x ≡ y → touched m.sheet g (Release x w) ≡ None → is_pending g x ≡ false
-      free g true e u = absurd (let k : cond (is_pending g x) (Some x) None ≡ Some x = rw e in let z : ◌≡◌ {A = ℕ} 0 1 = cc in omega arith)
+      free g true e u = absurd (let k : cond (is_pending g x) (Some x) None ≡ Some x = rw e in cc)
       free g false e u = e
 
       owns : Agree (own m x) v v'
@@ -304,7 +301,7 @@ module _ (m : Meaning) (ok : Lawful m) where
 
       below : i < m.sheet.tasks
       below = ⊎_elim (λ (l : i < m.sheet.tasks). l)
-          (λ (l : m.sheet.tasks ≤ i). absurd (let n = s.off i l in let z : ◌≡◌ {A = ℕ} 0 1 = cc in omega arith)) (cases_lt i m.sheet.tasks)
+          (λ (l : m.sheet.tasks ≤ i). absurd (let n = s.off i l in cc)) (cases_lt i m.sheet.tasks)
 
       kept : (p : ℕ) → (In p (own m i) → ⊥) → reading (put_own (own m i) 0 v (m.work i k.taken)) p ≡ reading v p
       kept p e = own_off (own m i) 0 v (m.work i k.taken) p (ap (has (own m i)) (zero-add p) ∙ not_in p (own m i) e)

@@ -1,8 +1,8 @@
 -- A clock for each task counts its window down from the release, and a call that shares with the task ends it. Where calls come
 -- when the clock says so, windows are kept.
-use Rattle.std.proofs.Common.{◌≡◌, ℕ, zero, suc, ◌+◌, ◌-◌, ◌<◌, ◌≤◌, Bool, true, false, cond, ◌||◌, eqb, ◌⊎◌, List, [], ◌∷◌, ◌++◌, length, get_or, Some, None, Option, sym, refl, ap, ◌∙◌, subst, ⊎_elim, true≢false, arith}
+use Rattle.std.proofs.Common.{◌≡◌, ℕ, zero, suc, ◌+◌, ◌-◌, ◌<◌, ◌≤◌, Bool, true, false, cond, eqb, ◌⊎◌, List, [], ◌∷◌, ◌++◌, length, get_or, Some, None, Option, sym, refl, ap, ◌∙◌, subst, ⊎_elim, arith}
 use Rattle.std.specs.List.{AllByRecursion}
-use Rattle.std.proofs.lemmas.Bool.{eq-eqb}
+use Rattle.std.proofs.lemmas.Bool.{eq-eqb, or_from, or_parts}
 use Rattle.ecode.specs.declared.sheet.Sheet.{Sheet}
 use Rattle.ecode.specs.declared.code.Instruction.{Instruction}
 use Rattle.ecode.specs.declared.code.Instruction.TheVariants.{Call, Release, Future, If, Jump, Return}
@@ -71,23 +71,17 @@ clocked_keeps s t (If q y) c e f = refl
 clocked_keeps s t (Jump y) c e f = refl
 clocked_keeps s t Return c e f = refl
 
-some_none : {x : ℕ} → ◌≡◌ {A = Option ℕ} (Some x) None → ⊥
-some_none e = let z : ◌≡◌ {A = ℕ} 0 1 = cc in omega arith
-
 -- while a window runs, an event neither shares with the task nor releases it
 steady : (s : Sheet) (t d : ℕ) (c : Option ℕ) (e : Event) → c ≡ Some d → 1 ≤ d → Timely s t c e → (shares_by s e.instruction t ≡ false) × (clocked s t e.instruction c ≡ Some d)
 steady s t d c e is pos m = go (shares_by s e.instruction t) refl (releases e.instruction t) refl
   where
     go : (x : Bool) → shares_by s e.instruction t ≡ x → (y : Bool) → releases e.instruction t ≡ y → (shares_by s e.instruction t ≡ false) × (clocked s t e.instruction c ≡ Some d)
     go true u y v = ⊎_elim
-        (λ (z : c ≡ None). absurd (let w : ◌≡◌ {A = ℕ} 0 1 = cc in omega arith))
+        (λ (z : c ≡ None). cc)
         (λ (z : c ≡ Some 0). absurd (let w : d ≡ 0 = cc in omega arith))
         (m.met u).0
-    go false u true v = absurd (let z = m.again v in let w : ◌≡◌ {A = ℕ} 0 1 = cc in omega arith)
+    go false u true v = absurd (let z = m.again v in cc)
     go false u false v = (u, clocked_keeps s t e.instruction c u v ∙ is)
-
-or_false : (a b : Bool) → a ≡ false → b ≡ false → (a || b) ≡ false
-or_false a b e f = rw (e, f)
 
 -- after the release
 since : (s : Sheet) (t w : ℕ) (c : Option ℕ) (new old : List Event) (e : Event) → e.instruction ≡ Release t w → OnTime s t c (new ++ (e ∷ old)) →
@@ -100,7 +94,7 @@ since s t w c [] old e is o =
 since s t w c (x ∷ new) old e is o =
     let ih = since s t w c new old e is o.0 in
     let st = steady s t w (clock_after s t c (new ++ (e ∷ old))) x ih.1 ih.2 o.1 in
-    (or_false (shares_by s x.instruction t) (some_shares s t new) st.0 ih.0, st.1, ih.2)
+    (or_from (shares_by s x.instruction t) (some_shares s t new) st.0 ih.0, st.1, ih.2)
 
 -- a tick inside the window
 quiet : (s : Sheet) (t d : ℕ) (log : List Event) → 1 ≤ d → OnTime s t (Some d) log → (some_shares s t log ≡ false) × (clock_after s t (Some d) log ≡ Some d)
@@ -108,22 +102,18 @@ quiet s t d [] pos o = (refl, refl)
 quiet s t d (x ∷ log) pos o =
     let ih = quiet s t d log pos o.0 in
     let st = steady s t d (clock_after s t (Some d) log) x ih.1 pos o.1 in
-    (or_false (shares_by s x.instruction t) (some_shares s t log) st.0 ih.0, st.1)
-
-or_none : (a b : Bool) → (a || b) ≡ false → (a ≡ false) × (b ≡ false)
-or_none true b e = absurd (true≢false e)
-or_none false b e = (refl, e)
+    (or_from (shares_by s x.instruction t) (some_shares s t log) st.0 ih.0, st.1)
 
 -- the tick at its end: without a call that shares, the window would stay open
 open_end : (s : Sheet) (t d : ℕ) (log : List Event) → some_shares s t log ≡ false → OnTime s t (Some d) log → clock_after s t (Some d) log ≡ Some d
 open_end s t d [] e o = refl
 open_end s t d (x ∷ log) e o =
-    let p = or_none (shares_by s x.instruction t) (some_shares s t log) e in
+    let p = or_parts (shares_by s x.instruction t) (some_shares s t log) e in
     let ih = open_end s t d log p.1 o.0 in
     go (releases x.instruction t) refl ih p.0
   where
     go : (y : Bool) → releases x.instruction t ≡ y → clock_after s t (Some d) log ≡ Some d → shares_by s x.instruction t ≡ false → clocked s t x.instruction (clock_after s t (Some d) log) ≡ Some d
-    go true v ih u = absurd (let z = o.1.again v in let w : ◌≡◌ {A = ℕ} 0 1 = cc in omega arith)
+    go true v ih u = absurd (let z = o.1.again v in cc)
     go false v ih u = clocked_keeps s t x.instruction (clock_after s t (Some d) log) u v ∙ ih
 
 found_idle : (s : Sheet) (t : ℕ) (c : Option ℕ) (log : List Event) → OnTime s t c log → AllByRecursion (λ e. shares_by s e.instruction t ≡ true → e.pending t ≡ false) log

@@ -68,9 +68,6 @@ pub record Small (m : Meaning) (p : Contents) (s : State) : Type 0 where
   pub stop : (x : Stop) → s.stop ≡ Some x → StopFits m p x
   pub log : AllByRecursion (λ e. e.at < size p) s.log
 
-no_stop : {A : Type 0} (x : Stop) → ◌≡◌ {A = Option Stop} None (Some x) → A
-no_stop x e = absurd (let z : ◌≡◌ {A = ℕ} 0 1 = cc in omega arith)
-
 -- a value that holds at one place and everywhere else
 at_place : {A : Type 0} (P : ℕ → A → Type 0) (f : ℕ → A) (i : ℕ) (v : A) (t : ℕ) → P i v → P t (f t) → P t (changed f i v t)
 at_place P f i v t here there = go (eqb t i) refl
@@ -128,11 +125,11 @@ module _ (m : Meaning) (p : Contents) (ok : Lawful m) (ty : Formed m.sheet p) (t
     where
       go : (b : Bool) → cond b (Some x) None ≡ Some t → t < m.sheet.tasks
       go true e = let z : x ≡ t = cc in omega (arith, r.0)
-      go false e = absurd (let z : ◌≡◌ {A = ℕ} 0 1 = cc in omega arith)
-  touched_below (Future x a k) f t r e = absurd (let z : ◌≡◌ {A = ℕ} 0 1 = cc in omega arith)
-  touched_below (If q a) f t r e = absurd (let z : ◌≡◌ {A = ℕ} 0 1 = cc in omega arith)
-  touched_below (Jump a) f t r e = absurd (let z : ◌≡◌ {A = ℕ} 0 1 = cc in omega arith)
-  touched_below Return f t r e = absurd (let z : ◌≡◌ {A = ℕ} 0 1 = cc in omega arith)
+      go false e = cc
+  touched_below (Future x a k) f t r e = cc
+  touched_below (If q a) f t r e = cc
+  touched_below (Jump a) f t r e = cc
+  touched_below Return f t r e = cc
 
   thread_fits : (turns a : ℕ) (s : State) → a < size p → Inside m p s → Inside m p (thread m p turns a s)
   thread_fits zero a s l i = i
@@ -190,7 +187,7 @@ module _ (m : Meaning) (p : Contents) (ok : Lawful m) (ty : Formed m.sheet p) (t
   charged_fits f (Some i) s u = λ t. at_place (OfJob (JobFits m p)) f i (one_more_used (f i)) t (more (f i) (s i) (u i)) (s t)
     where
       more : (o : Option Job) → OfJob (JobFits m p) i o → OfJob (λ t k. k.used < budget p t) i o → OfJob (JobFits m p) i (one_more_used o)
-      more None s u = λ k e. absurd (let z : ◌≡◌ {A = ℕ} 0 1 = cc in omega arith)
+      more None s u = λ k e. cc
       more (Some j) s u =
           let old = s j refl in
           same_job (JobFits m p) i (record { left = j.left; used = j.used + 1; taken = j.taken })
@@ -215,7 +212,7 @@ module _ (m : Meaning) (p : Contents) (ok : Lawful m) (ty : Formed m.sheet p) (t
   fallen_fits f s t k e = go (f t) (s t) k e
     where
       go : (o : Option Job) → OfJob (JobFits m p) t o → OfJob (JobFits m p) t (one_less_left o)
-      go None s = λ k e. absurd (let z : ◌≡◌ {A = ℕ} 0 1 = cc in omega arith)
+      go None s = λ k e. cc
       go (Some j) s =
           let old = s j refl in
           same_job (JobFits m p) t (record { left = j.left - 1; used = j.used; taken = j.taken })
@@ -225,19 +222,19 @@ module _ (m : Meaning) (p : Contents) (ok : Lawful m) (ty : Formed m.sheet p) (t
   fallen_under f s t k e = go (f t) (s t) k e
     where
       go : (o : Option Job) → OfJob (λ t k. k.used < budget p t) t o → OfJob (λ t k. k.used < budget p t) t (one_less_left o)
-      go None s = λ k e. absurd (let z : ◌≡◌ {A = ℕ} 0 1 = cc in omega arith)
+      go None s = λ k e. cc
       go (Some j) s = same_job (λ t k. k.used < budget p t) t (record { left = j.left - 1; used = j.used; taken = j.taken }) (s j refl)
 
   queue_falls : (q : List Binding) → AllByRecursion (Fits p) q → AllByRecursion (Fits p) (map one_less_wait q)
   queue_falls q s = All-map (Fits p) one_less_wait q (All-weaker (Fits p) (λ b. Fits p (one_less_wait b)) (λ b h. (omega (arith, h.0), h.1)) q s)
 
   exhausted_is : (f : Table) (r : Option ℕ) (x : ℕ) → exhausted (budget p) f r ≡ Some x → r ≡ Some x
-  exhausted_is f None x e = absurd (let z : ◌≡◌ {A = ℕ} 0 1 = cc in omega arith)
+  exhausted_is f None x e = cc
   exhausted_is f (Some i) x e = go (spent (budget p i) (f i)) e
     where
       go : (b : Bool) → cond b (Some i) None ≡ Some x → ◌≡◌ {A = Option ℕ} (Some i) (Some x)
       go true e = e
-      go false e = absurd (let z : ◌≡◌ {A = ℕ} 0 1 = cc in omega arith)
+      go false e = cc
 
   -- nothing but the policy and the end of a task changes which task runs
   thread_running : (turns a : ℕ) (s : State) → (thread m p turns a s).running ≡ s.running
@@ -337,7 +334,7 @@ module _ (m : Meaning) (p : Contents) (ok : Lawful m) (ty : Formed m.sheet p) (t
         ports = i.ports;
         queue = i.queue;
         jobs = charged_fits s.pending s.running i.jobs (i.under g);
-        under = λ z. no_stop (BudgetUsedUp x) (sym z);
+        under = λ z. cc;
         running = λ n q. (let old = i.running n q in (old.0, charged_keeps s.pending s.running n old.1));
         stop = λ y q. (let z : BudgetUsedUp x ≡ y = cc in
             subst (StopFits m p) z (inl refl, (i.running x (exhausted_is (charged s.pending s.running) s.running x e)).0, omega (arith, ty.inside)));
@@ -349,7 +346,7 @@ module _ (m : Meaning) (p : Contents) (ok : Lawful m) (ty : Formed m.sheet p) (t
             queue = queue_falls s.queue i.queue;
             jobs = fallen_fits (charged s.pending s.running) (charged_fits s.pending s.running i.jobs (i.under g));
             under = fallen_under (charged s.pending s.running) (charged_under s.pending s.running (i.under g) e);
-            stop = λ x q. no_stop x q;
+            stop = λ x q. cc;
             log = tt;
           }) in
           subst (λ (o : Option ℕ). Small m p (After o)) (sym e) (record {
@@ -366,7 +363,7 @@ module _ (m : Meaning) (p : Contents) (ok : Lawful m) (ty : Formed m.sheet p) (t
   done_fits t s i = go (s.pending t)
     where
       gone : (P : ℕ → Job → Type 0) (u : ℕ) → OfJob P u (s.pending u) → OfJob P u (changed s.pending t None u)
-      gone P u h = at_place (OfJob P) s.pending t None u (λ k e. absurd (let z : ◌≡◌ {A = ℕ} 0 1 = cc in omega arith)) h
+      gone P u h = at_place (OfJob P) s.pending t None u (λ k e. cc) h
 
       go : (o : Option Job) → Small m p (finish m t o s)
       go None = i
@@ -375,7 +372,7 @@ module _ (m : Meaning) (p : Contents) (ok : Lawful m) (ty : Formed m.sheet p) (t
         queue = i.queue;
         jobs = λ u. gone (JobFits m p) u (i.jobs u);
         under = λ z u. gone (λ t k. k.used < budget p t) u (i.under z u);
-        running = λ n e. absurd (let z : ◌≡◌ {A = ℕ} 0 1 = cc in omega arith);
+        running = λ n e. cc;
         stop = i.stop;
         log = i.log;
       }
@@ -447,10 +444,10 @@ stays_small mark m p v calls b fair =
     let begun : Small m p (fresh p v) = record {
       ports = b.ports;
       queue = ((omega arith, ty.inside), tt);
-      jobs = λ t k e. absurd (let z : ◌≡◌ {A = ℕ} 0 1 = cc in omega arith);
-      under = λ z t k e. absurd (let z : ◌≡◌ {A = ℕ} 0 1 = cc in omega arith);
-      running = λ i e. absurd (let z : ◌≡◌ {A = ℕ} 0 1 = cc in omega arith);
-      stop = λ x e. no_stop x e;
+      jobs = λ t k e. cc;
+      under = λ z t k e. cc;
+      running = λ i e. cc;
+      stop = λ x e. cc;
       log = tt;
     } in
     calls_fit m p b.lawful ty b.accepted.load.ticks mark calls (fresh p v) begun fair

@@ -1,5 +1,6 @@
 -- Sums over the waiting bindings: how many hold a task, have it released, and the ticks to its deadline. Where each holds a task
 -- and none is held twice, they are no more than the tasks. A tick brings every deadline one nearer.
+use lib.ListN.{length-map}
 use Rattle.std.proofs.Common.{◌≡◌, ℕ, ◌+◌, ◌-◌, ◌<◌, ◌≤◌, Bool, true, false, cond, eqb, List, [], ◌∷◌, ◌++◌, map, length, Some, None, Option, refl, arith}
 use Rattle.std.specs.List.{AllByRecursion}
 use Rattle.std.proofs.lemmas.Bool.{eqb-true}
@@ -39,7 +40,7 @@ zero_wait : (b : Binding) → b.wait ≡ 0 → b ≡ due_at b.at
 zero_wait b e = λ i. record { wait = e i; at = b.at }
 
 pub due_split : (q : List Binding) (d : Due) → first_due q ≡ Some d → Split q d
-due_split [] d e = absurd (let z : ◌≡◌ {A = ℕ} 0 1 = cc in omega arith)
+due_split [] d e = cc
 due_split (b ∷ q) d e = go (eqb b.wait 0) refl (first_due q) refl (λ x r. due_split q x r)
   where
     go : (t : Bool) → eqb b.wait 0 ≡ t → (o : Option Due) → first_due q ≡ o → ((x : Due) → first_due q ≡ Some x → Split q x) → Split (b ∷ q) d
@@ -47,7 +48,7 @@ due_split (b ∷ q) d e = go (eqb b.wait 0) refl (first_due q) refl (λ x r. due
         let w = zero_wait b (eqb-true b.wait 0 p) in
         let z : record { address = b.at; others = q } ≡ d = cc in
         record { l = []; r = q; was = cc; rest = cc }
-    go false p None r ih = absurd (let z : ◌≡◌ {A = ℕ} 0 1 = cc in omega arith)
+    go false p None r ih = cc
     go false p (Some x) r ih =
         let s = ih x r in
         record { l = b ∷ s.l; r = s.r; was = cc; rest = cc }
@@ -119,8 +120,8 @@ none_due [] e = refl
 none_due (b ∷ q) e = go (eqb b.wait 0) refl (first_due q) refl (λ x. none_due q x)
   where
     go : (t : Bool) → eqb b.wait 0 ≡ t → (o : Option Due) → first_due q ≡ o → (first_due q ≡ None → due_count q ≡ 0) → cond (eqb b.wait 0) 1 0 + due_count q ≡ 0
-    go true p o r ih = absurd (let z : ◌≡◌ {A = ℕ} 0 1 = cc in omega arith)
-    go false p (Some x) r ih = absurd (let z : ◌≡◌ {A = ℕ} 0 1 = cc in omega arith)
+    go true p o r ih = cc
+    go false p (Some x) r ih = cc
     go false p None r ih = rw p (omega (arith, ih r))
 
 -- one tick less: a released task's deadline is one tick nearer
@@ -159,8 +160,7 @@ due_ticks_fall p t (b ∷ q) z o =
     )
 
 pub length_fall : (q : List Binding) → length (fall q) ≡ length q
-length_fall [] = refl
-length_fall (b ∷ q) = omega (arith, length_fall q)
+length_fall q = length-map q one_less_wait
 
 -- a task released in a waiting binding has ticks left
 pub due_ticks_left : (p : Contents) (t : ℕ) (q : List Binding) → due_count q ≡ 0 → released_in p t q ≡ 1 → 1 ≤ due_ticks p t q

@@ -20,7 +20,7 @@ line_of s im n a l =
 -- an accepted program is what the verdict made of the image
 accepted_is : (o : Option LoadFault) (x p : Contents) → ruled o x ≡ Ok p → x ≡ p
 accepted_is None x p e = cc
-accepted_is (Some f) x p e = absurd (let z : ◌≡◌ {A = ℕ} 0 1 = cc in omega arith)
+accepted_is (Some f) x p e = cc
 
 pub rows : RowsAreEight
 rows s = (

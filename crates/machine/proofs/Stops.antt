@@ -1,5 +1,5 @@
 -- A stop lasts: nothing that comes after it changes the state, and its ticks do not count.
-use Rattle.std.proofs.Common.{◌≡◌, ℕ, zero, suc, cond, List, [], ◌∷◌, Some, None, Option, sym, refl, ap, ◌∙◌, arith}
+use Rattle.std.proofs.Common.{◌≡◌, ℕ, zero, suc, cond, List, [], ◌∷◌, Some, None, Option, refl, ap, ◌∙◌}
 use Rattle.ecode.specs.Verdict.{Contents}
 use Rattle.host.specs.Meaning.{Meaning}
 use Rattle.machine.specs.declared.stop.Stop.{Stop}
@@ -7,15 +7,12 @@ use Rattle.machine.specs.State.{Event, State}
 use Rattle.machine.specs.Runner.{first_due, threads_on, unless_stopped, threads, tick, done}
 use Rattle.machine.specs.Calls.{RunCall, counts, is_running, if_going, leaves, after, logged, ticks_of, Tick, Done, AskState, AskPort}
 
-pub clash : {A : Type 0} {x : Stop} → ◌≡◌ {A = Option Stop} (Some x) None → A
-clash e = absurd (let z : ◌≡◌ {A = ℕ} 0 1 = cc in omega arith)
-
 abbrev pub Going : State → Type 0
 Going s = s.stop ≡ None
 
 pub unless_going : {A : Type 0} (x : Option Stop) (o o' : Option A) → x ≡ None → o ≡ o' → unless_stopped x o ≡ o'
 unless_going None o o' e f = f
-unless_going (Some x) o o' e f = clash e
+unless_going (Some x) o o' e f = cc
 
 the_stop : (o : Option Stop) → (o ≡ None → ⊥) → (x : Stop) × (o ≡ Some x)
 the_stop None e = absurd (e refl)
@@ -33,7 +30,7 @@ threads_went m p turns s g = go s.stop refl
   where
     go : (y : Option Stop) → s.stop ≡ y → Going s
     go None e = e
-    go (Some x) e = clash (sym e ∙ sym (ap (λ (u : State). u.stop) (threads_stay m p turns s x e)) ∙ g)
+    go (Some x) e = let u = threads_stay m p turns s x e in cc
 
 call_stays : (m : Meaning) (p : Contents) (c : RunCall) (s : State) (x : Stop) → s.stop ≡ Some x → leaves m p c s ≡ s
 call_stays m p (Tick r c) s x e = ap (λ (y : Option Stop). if_going y (cond (counts m r) (tick m p r c s) s) s) e
@@ -51,7 +48,7 @@ went m p calls s g = go s.stop refl
   where
     go : (y : Option Stop) → s.stop ≡ y → Going s
     go None e = e
-    go (Some x) e = clash (sym e ∙ sym (ap (λ (u : State). u.stop) (run_stays m p calls s x e)) ∙ g)
+    go (Some x) e = let u = run_stays m p calls s x e in cc
 
 -- a stopped run stays, and its ticks do not count
 pub run_halts : (m : Meaning) (p : Contents) (calls : List RunCall) (s : State) → (s.stop ≡ None → ⊥) → (after m p calls s ≡ s) × (ticks_of m p calls s ≡ [])

@@ -75,10 +75,10 @@ module _ (m : Meaning) (ok : Lawful m) where
   )
     where
       not_task : {y : PortKind} → y ≡ Task → y ≡ Sensor → ⊥
-      not_task e f = let z : ◌≡◌ {A = ℕ} 0 1 = cc in omega arith
+      not_task e f = cc
 
       not_driver : {y : PortKind} → y ≡ Driver → y ≡ Sensor → ⊥
-      not_driver e f = let z : ◌≡◌ {A = ℕ} 0 1 = cc in omega arith
+      not_driver e f = cc
 
   -- a call that touches no pending task writes no port of one
   call_finds : (d : ℕ) (v : Ports) (f : Table) → touched m.sheet f (Call d) ≡ None → (t : ℕ) (o : Option Job) → f t ≡ o → Finds m v t o → Finds m (m.drive d v) t o

@@ -211,10 +211,10 @@ module _ (h : Meaning) (p : Contents) (K : ℕ) (rate : ℕ → ℕ) (mark : Boo
       step_halt : (a : ℕ) (s : State) (t : ℕ) → a < size p → Here Z c0 (cell_at p a) s → touched h.sheet s.pending (instruction_at p a) ≡ Some t →
           Halted (performed h (instruction_at p a) a (Some t) s).state
       step_halt a s t k i e = record {
-        unmarked = λ m. (let z = free (instruction_at p a) a s.queue s.pending m i.sound (ty.cells a k) (ty.ranges a k) in let y : ◌≡◌ {A = ℕ} 0 1 = cc in omega arith);
+        unmarked = λ m. (let z = free (instruction_at p a) a s.queue s.pending m i.sound (ty.cells a k) (ty.ranges a k) in cc);
         few = few_of (cell_at p a) s.queue s.pending i.sound;
         small = (few_of (cell_at p a) s.queue s.pending i.sound, i.small);
-        halt = λ z. (let y : ◌≡◌ {A = ℕ} 0 1 = cc in omega arith);
+        halt = λ z. (cc);
       }
 
       pub thread_ran : (turns a : ℕ) (s : State) → size p ≤ a + turns → a < size p → Here Z c0 (cell_at p a) s → Ran Z c0 (thread h p turns a s)

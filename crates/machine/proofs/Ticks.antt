@@ -48,7 +48,7 @@ cover_same : (n K : ℕ) (rate left rem left' rem' : ℕ → ℕ) → ((t : ℕ)
 cover_same n K rate left rem left' rem' e f c = cover.turn n K rate left rem left' rem' c (λ t k. inl (e t k, f t k))
 
 pub cond_none : (b : Bool) (i : ℕ) → cond b (Some i) None ≡ None → b ≡ false
-cond_none true i e = absurd (let z : ◌≡◌ {A = ℕ} 0 1 = cc in omega arith)
+cond_none true i e = cc
 cond_none false i e = refl
 
 match_same : (h : Meaning) (p : Contents) (K : ℕ) (rate : ℕ → ℕ) (t : ℕ) (o : Option ℕ) (c c' : Cell) (q q' : List Binding) →
@@ -302,7 +302,7 @@ module _ (h : Meaning) (p : Contents) (K : ℕ) (rate : ℕ → ℕ) (mark : Boo
 
   runs_choice : (x : Option Stop) (o c : Option ℕ) → x ≡ None → runs x o c ≡ c
   runs_choice None o c e = refl
-  runs_choice (Some x) o c e = absurd (let z : ◌≡◌ {A = ℕ} 0 1 = cc in omega arith)
+  runs_choice (Some x) o c e = cc
 
   abbrev with_choice : State → Option ℕ → State
   with_choice m choice = record { ports = m.ports; queue = m.queue; pending = m.pending; running = runs m.stop m.running choice; stop = m.stop; log = m.log }
@@ -331,12 +331,12 @@ module _ (h : Meaning) (p : Contents) (K : ℕ) (rate : ℕ → ℕ) (mark : Boo
   -- a budget that the tick finds used up
   found_used_up : (f : Table) (r : Option ℕ) (x : ℕ) → Runs f r → exhausted (budget p) (charged f r) r ≡ Some x →
       (t : ℕ) × (k : Job) × (t < h.sheet.tasks) × (charged f r t ≡ Some k) × (budget p t ≤ k.used)
-  found_used_up f None x run e = absurd (let z : ◌≡◌ {A = ℕ} 0 1 = cc in omega arith)
+  found_used_up f None x run e = cc
   found_used_up f (Some i) x run e = go (charged f (Some i) i) refl (cond_some (spent (budget p i) (charged f (Some i) i)) i x e)
     where
       cond_some : (b : Bool) (i x : ℕ) → cond b (Some i) None ≡ Some x → b ≡ true
       cond_some true i x e = refl
-      cond_some false i x e = absurd (let z : ◌≡◌ {A = ℕ} 0 1 = cc in omega arith)
+      cond_some false i x e = cc
 
       go : (o : Option Job) → charged f (Some i) i ≡ o → spent (budget p i) (charged f (Some i) i) ≡ true →
           (t : ℕ) × (k : Job) × (t < h.sheet.tasks) × (charged f (Some i) t ≡ Some k) × (budget p t ≤ k.used)
@@ -365,7 +365,7 @@ module _ (h : Meaning) (p : Contents) (K : ℕ) (rate : ℕ → ℕ) (mark : Boo
           (λ j. inr (record { halt = j.halt; used_up = λ m. absurd (j.unmarked m); few = j.few; small = j.small }))
           (threads_ran (length s.queue) (length s.queue) (λ t. one_tick_less (c t)) (mid s readings) (omega arith) (begun c s readings load i e)))
       go (Some x) e a = subst Left (sym e) (inr (record {
-        halt = λ z. (let y : ◌≡◌ {A = ℕ} 0 1 = cc in omega arith);
+        halt = λ z. (cc);
         used_up = λ m. found_used_up s.pending s.running x (i.runs m) e;
         few = ready_few c s i;
         small = tt;

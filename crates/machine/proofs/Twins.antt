@@ -15,7 +15,7 @@ use Rattle.machine.specs.Runner.{touched, queue_after, next_after, performed, on
 use Rattle.machine.specs.Calls.{RunCall, counts, is_running, if_going, leaves, after, Tick, Done, AskState, AskPort}
 use Rattle.machine.specs.Begins.{Begins}
 use Rattle.machine.specs.Agreement.{readings_of, LikeHosts, DriverPortsAgree}
-use Rattle.machine.proofs.Stops.{clash, Going, unless_going, threads_went, went}
+use Rattle.machine.proofs.Stops.{Going, unless_going, threads_went, went}
 use Rattle.machine.proofs.Alike.{Alike, drivers_plain, alike_sym, alike_open, alike_instruction, alike_next, alike_done}
 
 -- every instruction of the program is in range, and past its end stands a return
@@ -44,8 +44,8 @@ module _ (m : Meaning) (p : Contents) (ok : Lawful m) (range : (a : ℕ) → Ran
       onto : (o o' : Option ℕ) (u u' : State) → o ≡ o' → Twin u u' → Going (onward (thread m p turns) u o) → Going (onward (thread m p turns) u' o') → IH →
           Twin (onward (thread m p turns) u o) (onward (thread m p turns) u' o')
       onto None None u u' e t g g' ih = t
-      onto None (Some b) u u' e t g g' ih = absurd (let z : ◌≡◌ {A = ℕ} 0 1 = cc in omega arith)
-      onto (Some b) None u u' e t g g' ih = absurd (let z : ◌≡◌ {A = ℕ} 0 1 = cc in omega arith)
+      onto None (Some b) u u' e t g g' ih = cc
+      onto (Some b) None u u' e t g g' ih = cc
       onto (Some b) (Some c) u u' e t g g' ih =
           let z : b ≡ c = cc in
           subst (λ (x : ℕ). Twin (thread m p turns b u) (thread m p turns x u')) z
@@ -54,8 +54,8 @@ module _ (m : Meaning) (p : Contents) (ok : Lawful m) (range : (a : ℕ) → Ran
       go : (o : Option ℕ) → touched m.sheet s.pending (instruction_at p a) ≡ o → (o' : Option ℕ) → touched m.sheet s'.pending (instruction_at p a) ≡ o' →
           Going (Run s (touched m.sheet s.pending (instruction_at p a))) → Going (Run s' (touched m.sheet s'.pending (instruction_at p a))) → IH →
           Twin (Run s (touched m.sheet s.pending (instruction_at p a))) (Run s' (touched m.sheet s'.pending (instruction_at p a)))
-      go (Some x) e o' e' g g' ih = clash (subst (λ (o : Option ℕ). Going (Run s o)) e g)
-      go None e (Some x) e' g g' ih = clash (subst (λ (o : Option ℕ). Going (Run s' o)) e' g')
+      go (Some x) e o' e' g g' ih = let k : Going (Run s (Some x)) = subst (λ (o : Option ℕ). Going (Run s o)) e g in cc
+      go None e (Some x) e' g g' ih = let k : Going (Run s' (Some x)) = subst (λ (o : Option ℕ). Going (Run s' o)) e' g' in cc
       go None e None e' g g' ih =
           subst (λ (o : Option ℕ). Twin (Run s o) (Run s' (touched m.sheet s'.pending (instruction_at p a)))) (sym e)
           (subst (λ (o : Option ℕ). Twin (Run s None) (Run s' o)) (sym e')
@@ -112,8 +112,8 @@ module _ (m : Meaning) (p : Contents) (ok : Lawful m) (range : (a : ℕ) → Ran
       }
 
       go : (o o' : Option ℕ) → Going (Run o) → Going (Run' o') → Twin (Run o) (Run' o')
-      go (Some x) o' g g' = clash g
-      go None (Some x) g g' = clash g'
+      go (Some x) o' g g' = cc
+      go None (Some x) g g' = cc
       go None None g g' =
           let l : length s'.queue ≡ length s.queue = ap length (sym t.queue) in
           let u : Going (threads m p (length s.queue) (opening m r s' (charged s'.pending s'.running))) =
@@ -201,12 +201,12 @@ module _ (m : Meaning) (p : Contents) (ok : Lawful m) (range : (a : ℕ) → Ran
   run_twin (suc n) [] (c ∷ calls') s s' l t e g g' =
       elim (head c) [
         | inl a ↦ run_twin n [] calls' s (leaves m p c s') (omega arith) (aside_right c s s' a.0 t) (e ∙ a.1 calls') g g'
-        | inr k ↦ absurd (let w = e ∙ k.says calls' in let z : ◌≡◌ {A = ℕ} 0 1 = cc in omega arith)
+        | inr k ↦ absurd (let w = e ∙ k.says calls' in cc)
       ]
   run_twin (suc n) (c ∷ calls) [] s s' l t e g g' =
       elim (head c) [
         | inl a ↦ run_twin n calls [] (leaves m p c s) s' (omega arith) (aside_twin c s s' a.0 t) (sym (a.1 calls) ∙ e) g g'
-        | inr k ↦ absurd (let w = sym (k.says calls) ∙ e in let z : ◌≡◌ {A = ℕ} 0 1 = cc in omega arith)
+        | inr k ↦ absurd (let w = sym (k.says calls) ∙ e in cc)
       ]
   run_twin (suc n) (c ∷ calls) (c' ∷ calls') s s' l t e g g' =
       elim (head c) [

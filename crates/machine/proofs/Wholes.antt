@@ -81,7 +81,7 @@ module _ (h : Meaning) (p : Contents) (v : Ports) (mark : Bool) (b : Begins h p 
   positive : (t a w : ℕ) → (get_or p.lines a blank).instruction ≡ Release t w → 1 ≤ w
   positive t a w e = elim (cases_lt a (size p)) [
     | inl l ↦ (subst (Ranged h.sheet) e (b.accepted.bounds.ranges a l)).1.0
-    | inr l ↦ absurd (let z = sym (ap (λ x. x.instruction) (get_or_past p.lines a blank l)) ∙ e in let w : ◌≡◌ {A = ℕ} 0 1 = cc in omega arith)
+    | inr l ↦ absurd (let z = sym (ap (λ x. x.instruction) (get_or_past p.lines a blank l)) ∙ e in cc)
   ]
 
   least : (t : ℕ) → LeastWindow p.lines t (window p.lines t)

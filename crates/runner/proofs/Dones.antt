@@ -1,8 +1,7 @@
 -- The end of a task by the code is one by the reference runner.
-use Rattle.std.proofs.Common.{◌≡◌, ℕ, Bool, true, false, not, cond, eqb, Option, Some, None, Ok, Err, sym, refl, ap, ◌∙◌}
-use Rattle.std.proofs.lemmas.Bool.{eq-eqb, cond-true, eqb-true}
+use Rattle.std.proofs.Common.{◌≡◌, ℕ, true, false, not, cond, eqb, Option, Some, None, Ok, Err, sym, refl, ap, ◌∙◌}
+use Rattle.std.proofs.lemmas.Bool.{eq-eqb, cond-true, eqb-true, not-false}
 use Rattle.std.specs.Option.{option_eq}
-use mathlib.Core.Bool.{false≢true}
 use Rattle.ecode.specs.Verdict.{Contents}
 use Rattle.host.specs.Meaning.{Meaning}
 use Rattle.machine.specs.declared.fault.RunFault.TheVariants.{NotRunning}
@@ -13,12 +12,8 @@ use Rattle.ecode.specs.Sheets.{owns_of}
 
 -- what is equal to a task that runs is that task
 pub running_is : (o : Option ℕ) (t : ℕ) → not (option_eq eqb o (Some t)) ≡ false → o ≡ Some t
-running_is None t e = absurd (false≢true (sym e))
-running_is (Some i) t e = ap Some (eqb-true i t (go (eqb i t) e))
-  where
-    go : (b : Bool) → not b ≡ false → b ≡ true
-    go true e = refl
-    go false e = absurd (false≢true (sym e))
+running_is None t e = cc
+running_is (Some i) t e = ap Some (eqb-true i t (not-false (eqb i t) e))
 
 module _ (m : Meaning) (p : Contents) (t : ℕ) (s : State) (going : s.stop ≡ None) (runs : s.running ≡ Some t) where
   is_on : is_running s.running t ≡ true

@@ -5,4 +5,5 @@ pub mod Sounds
 pub mod Threads
 pub mod Ticks
 pub mod Turns
+pub mod Within
 pub mod Plays

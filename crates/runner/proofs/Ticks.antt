@@ -74,7 +74,7 @@ slotted n f t k e = go (has f.pending t) refl e
   where
     go : (b : Bool) → has f.pending t ≡ b → cond b (Some (job n (get_or f.slots t no_slot))) None ≡ Some k → Slotted f t k
     go true q e = let z : job n (get_or f.slots t no_slot) ≡ k = cc in record { member = q; used = ap (λ (j : Job). j.used) z }
-    go false q e = absurd (let z : ◌≡◌ {A = ℕ} 0 1 = cc in omega arith)
+    go false q e = cc
 
 -- the running task can be charged
 pub chargeable : (m : Meaning) (p : Contents) (w : Wiring) (v : Ports) (g : Progress) → m.sheet.tasks ≤ 8 → Steady m p (standing w v [] g) → Chargeable g.table g.running

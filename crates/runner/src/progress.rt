@@ -12,7 +12,8 @@ pub struct Progress {
 }
 
 // Where a thread goes after an instruction.
-#[derive(Clone, Copy)]
+// No Result<Option<u16>, Stop>: a return would be `Ok(None)`, and the state that a step's contract tells would lack the stop.
+#[derive(Clone, Copy, PartialEq, Eq)]
 pub enum Flow {
     To(u16),
     Returned,

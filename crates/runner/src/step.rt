@@ -77,6 +77,7 @@ impl Progress {
         ensures same { SameBench H.Host.meaning bench.old bench.new }
     {
         let mut count = 0u16;
+        // The project's rule: a labelled loop over the due bindings, left on a stop from inside the instruction loop.
         'due: while let Some(first) = self.queue.take_due() {
             let mut at = first;
             loop {
