@@ -2,7 +2,7 @@
 use Rattle.std.proofs.Common.{◌≡◌, ℕ, Bool, List, [], ◌∷◌, ◌++◌, length, None, Option, refl, sym, ap, ◌∙◌, subst}
 use Rattle.ecode.specs.declared.code.Program.{Program}
 use Rattle.ecode.specs.Verdict.{Contents}
-use Rattle.ecode.specs.Accepted.{Accepted}
+use Rattle.ecode.specs.Accepted.{Bounded, Accepted}
 use Rattle.host.specs.Meaning.{Meaning, Lawful}
 use Rattle.policy.specs.declared.pending.PendingTask.{PendingTask}
 use Rattle.policy.specs.Choice.{Choice}
@@ -17,7 +17,7 @@ use Rattle.std.proofs.Math.Nat.{ℕ_set}
 use Rattle.runner.specs.declared.bench.Bench.{Bench}
 use Rattle.runner.specs.declared.run.Run.{Run}
 use Rattle.runner.specs.Standing.{program_of}
-use Rattle.runner.specs.Sound.{loaded, SoundBench, SameBench, shown, SoundRun}
+use Rattle.runner.specs.Sound.{loaded, SoundBench, FitBench, SameBench, shown, SoundRun}
 use Rattle.runner.specs.Follows.{Follows}
 
 -- a wiring that was lent out in parts comes back as it was
@@ -64,6 +64,16 @@ module _ {H : Type 0} (meaning : H → Meaning) where
     accepted = subst (λ (m : Meaning). Accepted m.sheet (loaded b')) (sym k.host) (subst (Accepted (meaning b.host).sheet) (sym (same_program b b' k)) s.accepted);
     rows = subst RowsOfEight (sym (same_program b b' k)) s.rows;
     wired = subst (λ (m : Meaning). WiredFor m.sheet b'.wiring) (sym k.host) (subst (WiredFor (meaning b.host).sheet) (sym k.wiring) s.wired);
+  }
+
+  -- a sound bench is fit for its instructions, and a bench that stays so stays fit
+  pub fit : (b : Bench H) → SoundBench meaning b → FitBench meaning b
+  fit b s = record { bounds = s.accepted.bounds; wired = s.wired }
+
+  pub fit_kept : (b b' : Bench H) → SameBench meaning b b' → FitBench meaning b → FitBench meaning b'
+  fit_kept b b' k f = record {
+    bounds = subst (λ (m : Meaning). Bounded m.sheet (loaded b').entry (loaded b').lines) (sym k.host) (subst (λ p. Bounded (meaning b.host).sheet p.entry p.lines) (sym (same_program b b' k)) f.bounds);
+    wired = subst (λ (m : Meaning). WiredFor m.sheet b'.wiring) (sym k.host) (subst (WiredFor (meaning b.host).sheet) (sym k.wiring) f.wired);
   }
 
   module _ {P : Type 0} (ports : H → Ports) (mark : P → Bool) (lawful : (h : H) → Lawful (meaning h)) (r : Run H P) (s : SoundRun meaning ports mark r) where

@@ -19,7 +19,7 @@ use Rattle.parts.specs.Wired.{WiredFor}
 use Rattle.parts.proofs.Bits.{lowest_same, lowest_further}
 use Rattle.runner.specs.Standing.{program_of}
 use Rattle.runner.specs.declared.bench.Bench.{Bench}
-use Rattle.runner.specs.Sound.{loaded, SoundBench}
+use Rattle.runner.specs.Sound.{loaded, FitBench}
 use Rattle.runner.specs.Turns.{Room, Touch, OnlyTouch}
 use Rattle.runner.specs.declared.progress.Progress.{Progress}
 use Rattle.parts.specs.declared.data.Queue.{Queue}
@@ -42,16 +42,16 @@ reads : (w : Wiring) (p : Program) (a : ℕ) → a < p.listing.count → (i : In
 reads w p a l i e =
     ap (λ (x : Line). x.instruction) (get_or-take p.listing.count p.listing.lines a blank l ∙ any_default p.listing.lines a blank (record { instruction = Call 0; row = [] }) (omega arith)) ∙ e
 
--- the instruction i at the address a of a sound bench's program
+-- the instruction i at the address a of a fit bench's program
 pub record Read {H : Type 0} (meaning : H → Meaning) (b : Bench H) (a : ℕ) (i : Instruction) : Type 0 where
-  pub sound : SoundBench meaning b
+  pub fit : FitBench meaning b
   pub lawful : Lawful (meaning b.host)
   pub low : a < b.program.listing.count
   pub is : instruction_at (loaded b) a ≡ i
 
-pub read : {H : Type 0} {meaning : H → Meaning} {b : Bench H} (lawful : (h : H) → Lawful (meaning h)) → SoundBench meaning b → (a : ℕ) → a < b.program.listing.count → (i : Instruction)
+pub read : {H : Type 0} {meaning : H → Meaning} {b : Bench H} (lawful : (h : H) → Lawful (meaning h)) → FitBench meaning b → (a : ℕ) → a < b.program.listing.count → (i : Instruction)
     → (get_or b.program.listing.lines a (record { instruction = Call 0; row = [] })).instruction ≡ i → Read meaning b a i
-read {b = b} lawful sound a low i e = record { sound = sound; lawful = lawful b.host; low = low; is = reads b.wiring b.program a low i e }
+read {b = b} lawful fit a low i e = record { fit = fit; lawful = lawful b.host; low = low; is = reads b.wiring b.program a low i e }
 
 module _ {H : Type 0} {meaning : H → Meaning} {b : Bench H} {a : ℕ} {i : Instruction} (k : Read meaning b a i) where
   abbrev m : Meaning
@@ -62,10 +62,10 @@ module _ {H : Type 0} {meaning : H → Meaning} {b : Bench H} {a : ℕ} {i : Ins
 
   -- its operands are in range, and its addresses in the program
   pub ranged : Ranged m.sheet i
-  ranged = subst (Ranged m.sheet) k.is (k.sound.accepted.bounds.ranges a inside)
+  ranged = subst (Ranged m.sheet) k.is (k.fit.bounds.ranges a inside)
 
   pub aimed : Aimed b.program.listing.count a i
-  aimed = subst (λ n. Aimed n a i) (size_is b.wiring b.program) (subst (Aimed (size (loaded b)) a) k.is (k.sound.accepted.bounds.addresses a inside))
+  aimed = subst (λ n. Aimed n a i) (size_is b.wiring b.program) (subst (Aimed (size (loaded b)) a) k.is (k.fit.bounds.addresses a inside))
 
   module _ (s : State) (v : List Event → State) where
     -- the state v, but for its log, and the address n are what the instruction leads to

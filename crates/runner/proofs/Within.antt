@@ -10,7 +10,7 @@ use Rattle.parts.specs.declared.data.Queue.{Queue}
 use Rattle.parts.specs.Shown.{queued}
 use Rattle.runner.specs.declared.bench.Bench.{Bench}
 use Rattle.runner.specs.declared.progress.Progress.{Progress}
-use Rattle.runner.specs.Sound.{loaded, SoundBench, SameBench, working}
+use Rattle.runner.specs.Sound.{loaded, FitBench, SameBench, working}
 use Rattle.runner.specs.Turns.{Room, Roomy}
 use Rattle.runner.proofs.Sounds.{same_program}
 use Rattle.runner.proofs.Turns.{size_is, requeued}
@@ -23,7 +23,7 @@ gives meaning ports b g = threads (meaning b.host) (loaded b) (length (queued g.
 -- the loop began with b and g; at b₀ and g₀, with n₀ instructions run, a binding with the address `first` was taken out, which left
 -- the queue q₁; its thread has come to b₁ and g₁ and is at the address a, with n instructions run
 pub record Within {H : Type 0} (meaning : H → Meaning) (ports : H → Ports) (b : Bench H) (g : Progress) (b₀ : Bench H) (g₀ : Progress) (n₀ : ℕ) (q₁ : Queue) (first : ℕ) (b₁ : Bench H) (g₁ : Progress) (a n : ℕ) : Type 0 where
-  pub sound : SoundBench meaning b
+  pub fit : FitBench meaning b
   pub left : Left (meaning b.host) (loaded b) (λ j. working ports b₀ j g₀) n₀ (gives meaning ports b g)
   pub going : g₀.stop ≡ None
   pub draws : first_due (queued g₀.queue) ≡ Some (record { address = first; others = queued q₁ })
@@ -74,7 +74,7 @@ module _ {H : Type 0} {meaning : H → Meaning} {ports : H → Ports} {b : Bench
 
     pub step_queued : Queued b.program.listing.count (queued g₁.queue) (queued g₂.queue)
     step_queued =
-        let bounds = k.sound.accepted.bounds in
+        let bounds = k.fit.bounds in
         queue_stepped m p b.program.listing.count a v v' o here (bounds.ranges a inside) (subst (λ j. Aimed j a (instruction_at p a)) (size_is b.wiring b.program) (bounds.addresses a inside))
 
     -- the thread goes on

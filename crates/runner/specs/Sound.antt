@@ -1,13 +1,14 @@
 -- When a bench and a run are sound: what every call asks, and every call that makes or keeps one promises.
 --   loaded        the program of a bench, as the reference runner has it
 --   SoundBench    the program of a bench is accepted for its host's sheet, and its rows have eight cells
+--   FitBench      what the instructions of a bench rest on: less than a sound one
 --   SameBench     a bench keeps its program and wiring, and its host what it does; the host's ports may change
 --   working       the state of a bench at work, with a log
 --   shown         the state that a run shows: all of it but the log of its last tick, which no code holds
 --   SoundRun      some list of calls, with choices that its policy may make, brings a fresh run to what the run shows
 use Rattle.std.specs.Prelude.{◌≡◌, Bool, List, [], length}
 use Rattle.ecode.specs.Verdict.{Contents}
-use Rattle.ecode.specs.Accepted.{Accepted}
+use Rattle.ecode.specs.Accepted.{Bounded, Accepted}
 use Rattle.host.specs.Meaning.{Meaning}
 use Rattle.machine.specs.State.{Ports, Event, State, bare, fresh}
 use Rattle.machine.specs.Begins.{RowsOfEight}
@@ -26,6 +27,11 @@ loaded b = program_of b.wiring b.program
 pub record SoundBench {H : Type 0} (meaning : H → Meaning) (b : Bench H) : Type 0 where
   pub accepted : Accepted (meaning b.host).sheet (loaded b)
   pub rows : RowsOfEight (loaded b)
+  pub wired : WiredFor (meaning b.host).sheet b.wiring
+
+-- the program keeps its bounds, and the wiring is the sheet's
+pub record FitBench {H : Type 0} (meaning : H → Meaning) (b : Bench H) : Type 0 where
+  pub bounds : Bounded (meaning b.host).sheet (loaded b).entry (loaded b).lines
   pub wired : WiredFor (meaning b.host).sheet b.wiring
 
 -- the ports of its host aside, the bench is as it was

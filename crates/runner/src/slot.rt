@@ -5,7 +5,8 @@ ghost use Rattle.machine.specs.Runner.{charged, exhausted, opening};
 ghost use Rattle.parts.specs.declared.data.Wiring.{Wiring};
 ghost use Rattle.parts.specs.Shown.{jobs, Chargeable};
 ghost use Rattle.runner.specs.Standing.{standing, after_charge};
-ghost use Rattle.runner.specs.Sound.{SoundBench, SameBench, working};
+ghost use Rattle.parts.specs.Wired.{WiredFor};
+ghost use Rattle.runner.specs.Sound.{SameBench, working};
 
 use crate::bench::Bench;
 use crate::progress::Progress;
@@ -30,7 +31,7 @@ impl Progress {
 
     // Every pending task has one tick less left, the readings are put, and every wait falls by 1.
     pub fn open<H: Host>(&mut self, bench: &mut Bench<H>, readings: &[i32])
-        requires bench { SoundBench H.Host.meaning bench.old }
+        requires wired { WiredFor (H.Host.meaning bench.old.host).sheet bench.old.wiring }
         requires going { self.old.stop ≡ None }
         requires below { (t : ℕ) → bench.old.wiring.tasks ≤ t → is_pending (jobs bench.old.wiring.ports self.old.table) t ≡ false }
         ensures after { (l : List Event) → working H.Host.ports bench.new [] self.new ≡ opening (H.Host.meaning bench.old.host) readings.now (working H.Host.ports bench.old l self.old) (jobs bench.old.wiring.ports self.old.table) }

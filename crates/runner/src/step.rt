@@ -3,7 +3,7 @@ ghost use Rattle.std.specs.Prelude.{◌≡◌, ◌<◌, List, [], length, None};
 ghost use Rattle.machine.specs.State.{Event, instruction_at};
 ghost use Rattle.machine.specs.Runner.{step, threads};
 ghost use Rattle.parts.specs.Shown.{queued};
-ghost use Rattle.runner.specs.Sound.{loaded, SoundBench, SameBench, working};
+ghost use Rattle.runner.specs.Sound.{loaded, FitBench, SameBench, working};
 ghost use Rattle.runner.specs.Turns.{Room, next_of, Tells, OnlyTouch, Upward, Inside, Roomy};
 
 use crate::bench::Bench;
@@ -15,7 +15,7 @@ use machine::stop::Stop;
 impl Progress {
     // One instruction.
     fn step<H: Host>(&mut self, bench: &mut Bench<H>, at: u16) -> Flow
-        requires bench { SoundBench H.Host.meaning bench.old }
+        requires fit { FitBench H.Host.meaning bench.old }
         requires within { at < bench.old.program.listing.count }
         requires room { Room (length (queued self.old.queue)) (instruction_at (loaded bench.old) at) }
         ensures turn { (l : List Event) → record { state = working H.Host.ports bench.new (step (H.Host.meaning bench.old.host) (loaded bench.old) at (working H.Host.ports bench.old l self.old)).state.log self.new; next = next_of result } ≡ step (H.Host.meaning bench.old.host) (loaded bench.old) at (working H.Host.ports bench.old l self.old) }
@@ -67,7 +67,7 @@ impl Progress {
     // Every binding that is due, the first first, is run from its address to a return, until none is due or the run stops.
     // Answers how many instructions ran.
     pub fn run_due<H: Host>(&mut self, bench: &mut Bench<H>) -> u16
-        requires bench { SoundBench H.Host.meaning bench.old }
+        requires fit { FitBench H.Host.meaning bench.old }
         requires going { self.old.stop ≡ None }
         requires inside { Inside bench.old.program.listing.count (queued self.old.queue) }
         requires room { Roomy (threads (H.Host.meaning bench.old.host) (loaded bench.old) (length (queued self.old.queue)) (working H.Host.ports bench.old [] self.old)).log }

@@ -5,7 +5,7 @@ use Rattle.machine.specs.Runner.{threads, with_queue}
 use Rattle.machine.proofs.Queues.{due_few, due_count}
 use Rattle.parts.specs.Shown.{queued}
 use Rattle.runner.specs.Sound.{loaded, working}
-use Rattle.runner.proofs.Sounds.{unchanged, both_same, bench_kept, same_count}
+use Rattle.runner.proofs.Sounds.{unchanged, both_same, fit_kept, same_count}
 use Rattle.runner.specs.Turns.{OnlyTouch}
 use Rattle.runner.proofs.Turns.{requeued, touch_only}
 use Rattle.runner.proofs.Threads.{Left, drawn, threads_none, threads_stopped, whole_from, recount}
@@ -27,9 +27,9 @@ pub step-requires : goal.step-requires
 step-requires g c =
     let b = c.args.bench.now in
     let k : Within g.H.Host.meaning g.H.Host.ports b c.args.self.now c.due.bench c.due.self c.due.count c.take_due.new.self c.in-Some.first c.loop-next.bench c.loop-next.self c.loop-next.at c.loop-next.count
-    = record { sound = c.requires.bench; left = c.due.invariant.4; going = c.due.invariant.1; draws = c.in-Some.ensures; same = c.loop-next.invariant.0; low = c.loop-next.invariant.2; mids = c.loop-next.invariant.7 } in
+    = record { fit = c.requires.fit; left = c.due.invariant.4; going = c.due.invariant.1; draws = c.in-Some.ensures; same = c.loop-next.invariant.0; low = c.loop-next.invariant.2; mids = c.loop-next.invariant.7 } in
     record {
-      bench = bench_kept g.H.Host.meaning b c.loop-next.bench k.same c.requires.bench;
+      fit = fit_kept g.H.Host.meaning b c.loop-next.bench k.same c.requires.fit;
       within = omega (arith, k.low, same_count g.H.Host.meaning b c.loop-next.bench k.same);
       room = room k c.requires.room;
     }
@@ -38,7 +38,7 @@ pub loop-next-preserved : goal.loop-next-preserved
 loop-next-preserved g c =
     let b = c.args.bench.now in
     let k : Within g.H.Host.meaning g.H.Host.ports b c.args.self.now c.due.bench c.due.self c.due.count c.take_due.new.self c.in-Some.first c.loop-next.bench c.loop-next.self c.loop-next.at c.loop-next.count
-    = record { sound = c.requires.bench; left = c.due.invariant.4; going = c.due.invariant.1; draws = c.in-Some.ensures; same = c.loop-next.invariant.0; low = c.loop-next.invariant.2; mids = c.loop-next.invariant.7 } in
+    = record { fit = c.requires.fit; left = c.due.invariant.4; going = c.due.invariant.1; draws = c.in-Some.ensures; same = c.loop-next.invariant.0; low = c.loop-next.invariant.2; mids = c.loop-next.invariant.7 } in
     let es = c.in-To.ensures in
     let inv = c.loop-next.invariant in
     let q = step_queued k c.step.new.bench c.step.new.self (Some c.in-To.next) es.turn in
@@ -57,7 +57,7 @@ pub due-smaller : goal.due-smaller
 due-smaller g c =
     let b = c.args.bench.now in
     let k : Within g.H.Host.meaning g.H.Host.ports b c.args.self.now c.due.bench c.due.self c.due.count c.take_due.new.self c.in-Some.first c.loop-next.bench c.loop-next.self c.loop-next.at c.loop-next.count
-    = record { sound = c.requires.bench; left = c.due.invariant.4; going = c.due.invariant.1; draws = c.in-Some.ensures; same = c.loop-next.invariant.0; low = c.loop-next.invariant.2; mids = c.loop-next.invariant.7 } in
+    = record { fit = c.requires.fit; left = c.due.invariant.4; going = c.due.invariant.1; draws = c.in-Some.ensures; same = c.loop-next.invariant.0; low = c.loop-next.invariant.2; mids = c.loop-next.invariant.7 } in
     let q = step_queued k c.step.new.bench c.step.new.self None c.in-Returned.ensures.turn in
     omega (arith, q.few, c.loop-next.invariant.6, fewer k)
 
@@ -65,7 +65,7 @@ pub due-preserved : goal.due-preserved
 due-preserved g c =
     let b = c.args.bench.now in
     let k : Within g.H.Host.meaning g.H.Host.ports b c.args.self.now c.due.bench c.due.self c.due.count c.take_due.new.self c.in-Some.first c.loop-next.bench c.loop-next.self c.loop-next.at c.loop-next.count
-    = record { sound = c.requires.bench; left = c.due.invariant.4; going = c.due.invariant.1; draws = c.in-Some.ensures; same = c.loop-next.invariant.0; low = c.loop-next.invariant.2; mids = c.loop-next.invariant.7 } in
+    = record { fit = c.requires.fit; left = c.due.invariant.4; going = c.due.invariant.1; draws = c.in-Some.ensures; same = c.loop-next.invariant.0; low = c.loop-next.invariant.2; mids = c.loop-next.invariant.7 } in
     let es = c.in-Returned.ensures in
     let due = c.due.invariant in
     let inv = c.loop-next.invariant in
@@ -83,7 +83,7 @@ pub returns-in-Stopped : goal.returns-in-Stopped
 returns-in-Stopped g c =
     let b = c.args.bench.now in
     let k : Within g.H.Host.meaning g.H.Host.ports b c.args.self.now c.due.bench c.due.self c.due.count c.take_due.new.self c.in-Some.first c.loop-next.bench c.loop-next.self c.loop-next.at c.loop-next.count
-    = record { sound = c.requires.bench; left = c.due.invariant.4; going = c.due.invariant.1; draws = c.in-Some.ensures; same = c.loop-next.invariant.0; low = c.loop-next.invariant.2; mids = c.loop-next.invariant.7 } in
+    = record { fit = c.requires.fit; left = c.due.invariant.4; going = c.due.invariant.1; draws = c.in-Some.ensures; same = c.loop-next.invariant.0; low = c.loop-next.invariant.2; mids = c.loop-next.invariant.7 } in
     let es = c.in-Stopped.ensures in
     let q = step_queued k c.step.new.bench c.step.new.self None es.turn in
     let few : due_count (queued c.step.new.self.queue) ≤ due_count (queued c.take_due.new.self) = omega (arith, q.few, c.loop-next.invariant.6) in

@@ -5,7 +5,7 @@ use Rattle.machine.specs.State.{bare}
 use Rattle.machine.specs.Runner.{kinds_of}
 use Rattle.machine.specs.Calls.{Tick, counts, sensor_count, leaves}
 use Rattle.runner.specs.Sound.{loaded, shown}
-use Rattle.runner.proofs.Sounds.{unchanged, bench_kept, follows}
+use Rattle.runner.proofs.Sounds.{unchanged, fit, fit_kept, follows}
 use Rattle.runner.proofs.Ticks.{sensors_long, refused, refuses, chargeable, stop_leaves}
 use Rattle.runner.proofs.Phases.{Begun, Charged, Opened, Ended, rests, over_state, over_answer, over_asked, still_going, still_below, no_stop, queue_inside, room, kept, stop_state, stop_answer, stop_asked, ran_state, ran_answer_is, ran_asked}
 use Rattle.runner.proofs.run.Run.tick.Goals as goal
@@ -60,7 +60,7 @@ open-requires g c =
     = record { lawful = g.met.H.Host.lawful; sound = c.requires; none = c.in_default.is; enough = c.if-given-len.false ∙ c.len.ensures.value } in
     let es = c.in_default-charge.ensures in
     let q : Charged k None c.charge.new.self = record { said = es.answer w.ports; left = es.after w v [] } in
-    record { bench = c.requires.bench; going = still_going k q; below = still_below k q }
+    record { wired = c.requires.bench.wired; going = still_going k q; below = still_below k q }
 
 pub run_due-instructions-requires : goal.run_due-instructions-requires
 run_due-instructions-requires g c =
@@ -73,7 +73,7 @@ run_due-instructions-requires g c =
     let q : Charged k None c.charge.new.self = record { said = es.answer w.ports; left = es.after w v [] } in
     let u : Opened k q c.open.new.bench c.open.new.self = record { same = c.open.ensures.same; opens = c.open.ensures.after [] } in
     record {
-      bench = bench_kept g.H.Host.meaning r.bench c.open.new.bench u.same c.requires.bench;
+      fit = fit_kept g.H.Host.meaning r.bench c.open.new.bench u.same (fit g.H.Host.meaning r.bench c.requires.bench);
       going = no_stop k q u;
       inside = queue_inside k q u;
       room = room k q u;
