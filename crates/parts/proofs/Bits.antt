@@ -1,9 +1,9 @@
--- Sets of tasks as masks: the members of a meet, the lowest number that passes, and a set that grows by one task.
-use Rattle.std.proofs.Common.{◌≡◌, ℕ, zero, suc, ◌+◌, ◌<◌, ◌≤◌, min, Bool, true, false, cond, ◌&&◌, ◌||◌, eqb, ltb, Some, None, Option, sym, refl, ap, ◌∙◌, inl, inr, arith}
-use Rattle.std.specs.Int.{bit_at}
-use lib.Bits.{bit_and}
-use Rattle.std.proofs.lemmas.Nat.Bits.{bit_at-lt, bit_at_and}
-use Rattle.std.proofs.lemmas.Bool.{cases_lt, cases_order, eq-eqb, ne_eqb, lt-ltb, le-ltb, and_from, and_left, and_right, or_left}
+-- Sets of tasks as masks: the members of a meet, of a set with one task more or less, and the lowest member.
+use Rattle.std.proofs.Common.{◌≡◌, ℕ, zero, suc, ◌+◌, ◌-◌, ◌*◌, ◌%◌, ◌^◌, ◌<◌, ◌≤◌, w8, min, Bool, true, false, cond, not, ◌&&◌, ◌||◌, eqb, ltb, Some, None, Option, sym, refl, ap, ◌∙◌, inl, inr, arith}
+use Rattle.std.specs.Int.{bit_at, trailing_zeros}
+use lib.Bits.{bit_and, bit_or}
+use Rattle.std.proofs.lemmas.Nat.Bits.{bit_at-lt, bit_at-zero, bit_at_and, bit_at_above, bit_at_set_same, bit_at_set_other, bit_at_clear_same, bit_at_clear_other, bit_at-trailing_zeros}
+use Rattle.std.proofs.lemmas.Bool.{cases_eq, cases_lt, cases_order, eq-eqb, ne_eqb, lt-ltb, le-ltb, and_from, and_left, and_right, or_left}
 use Rattle.ecode.specs.Wiring.{has}
 use Rattle.machine.specs.Runner.{or_else, lowest}
 
@@ -18,6 +18,27 @@ has_and a b k = ap (λ n. eqb n 1) (bit_at_and a b k) ∙ both (bit_at a k) (bit
     both (suc zero) (suc zero) h l = refl
     both (suc zero) (suc (suc v)) h l = absurd (omega arith)
     both (suc (suc u)) v h l = absurd (omega arith)
+
+-- one member more
+pub has_with : (set t k : ℕ) → t < 8 → has (bit_or set ((1 * 2 ^ t) % 256)) k ≡ (eqb k t || has set k)
+has_with set t k low = elim (cases_eq k t) [
+  | inl e ↦ ap (has (bit_or set ((1 * 2 ^ t) % 256))) e ∙ eq-eqb _ 1 (bit_at_set_same w8 set t low) ∙ sym (or_left (eqb k t) (has set k) (eq-eqb k t e))
+  | inr ne ↦ ap (λ n. eqb n 1) (bit_at_set_other w8 set t low k ne) ∙ sym (ap (λ b. b || has set k) (ne_eqb k t ne))
+]
+
+-- one member less: past its eight places a byte has none
+pub has_without : (set t k : ℕ) → set < 256 → t < 8 → has (bit_and set (255 - (1 * 2 ^ t) % 256)) k ≡ (not (eqb k t) && has set k)
+has_without set t k byte low =
+    let others = 255 - (1 * 2 ^ t) % 256 in
+    elim (cases_eq k t) [
+      | inl e ↦ ap (has (bit_and set others)) e ∙ ap (λ n. eqb n 1) (bit_at_clear_same w8 set t low) ∙ sym (and_left (not (eqb k t)) (has set k) (ap not (eq-eqb k t e)))
+      | inr ne ↦ elim (cases_lt k 8) [
+        | inl l ↦ ap (λ n. eqb n 1) (bit_at_clear_other w8 set t low k l ne) ∙ sym (ap (λ b. not b && has set k) (ne_eqb k t ne))
+        | inr l ↦
+            let none : has set k ≡ false = ap (λ n. eqb n 1) (bit_at_above set 8 k byte l) in
+            has_and set others k ∙ and_left (has set k) (has others k) none ∙ sym (and_right (not (eqb k t)) (has set k) none)
+      ]
+    ]
 
 -- the lowest number that passes, found from below
 module _ (f : ℕ → Bool) where
@@ -35,6 +56,14 @@ module _ (f : ℕ → Bool) where
         ap (λ o. or_else o (cond (f n) (Some n) None)) (lowest_clear n (λ k l. h k (omega arith)))
         ∙ ap (λ m. cond (f m) (Some m) None) same ∙ ap (λ b. cond b (Some t) None) e
   ]
+
+-- the lowest member of a byte
+pub lowest_member : (set : ℕ) → set < 256 → lowest 8 (has set) ≡ cond (eqb set 0) None (Some (trailing_zeros w8 set))
+lowest_member zero byte = lowest_clear (has 0) 8 (λ k l. ap (λ n. eqb n 1) (bit_at-zero k))
+lowest_member (suc set) byte =
+    let low = bit_at-trailing_zeros w8 (suc set) (omega arith) byte in
+    lowest_at (has (suc set)) (trailing_zeros w8 (suc set)) (eq-eqb _ 1 low.1) (λ j l. ap (λ n. eqb n 1) (low.2 j l)) 8 low.0
+    ∙ sym (ap (λ b. cond b None (Some (trailing_zeros w8 (suc set)))) (ne_eqb (suc set) 0 (λ e. omega arith)))
 
 -- two tests that agree below n have the same lowest number
 pub lowest_same : (f g : ℕ → Bool) (n : ℕ) → ((k : ℕ) → k < n → f k ≡ g k) → lowest n f ≡ lowest n g

@@ -1,15 +1,15 @@
 -- The table of tasks as the reference runner has it.
-use Rattle.std.proofs.Common.{◌≡◌, ℕ, ◌+◌, ◌-◌, ◌<◌, ◌≤◌, Bool, true, false, cond, List, [], ◌∷◌, ◌++◌, map, length, get_or, replicate, is_some, Some, None, sym, refl, ap, ◌∙◌, inl, inr, add-one, arith, length-append, ext_get_or}
+use Rattle.std.proofs.Common.{◌≡◌, ℕ, ◌+◌, ◌-◌, ◌<◌, ◌≤◌, Bool, true, false, cond, not, ◌&&◌, ◌||◌, eqb, List, [], ◌∷◌, ◌++◌, map, length, get_or, set, replicate, is_some, Option, Some, None, sym, refl, ap, ◌∙◌, inl, inr, add-one, arith, length-append, ext_get_or, get_or-set_same, get_or-set_other}
 use mathlib.Core.Path.{fun_ext}
 use lib.ListN.{length-map, length-replicate, get_or-replicate}
 use Rattle.std.proofs.lemmas.List.{get_or_append_left, get_or-append_right, get_or-map}
-use Rattle.std.proofs.lemmas.Bool.{cases_lt, cond-false}
+use Rattle.std.proofs.lemmas.Bool.{cases_lt, cases_eq, eq-eqb, ne_eqb, or_left, cond-true, cond-false}
 use Rattle.ecode.specs.Wiring.{has}
 use Rattle.policy.specs.declared.pending.PendingTask.{PendingTask}
 use Rattle.policy.specs.Choice.{nobody}
 use Rattle.machine.specs.State.{Job, Table, is_pending}
 use Rattle.machine.specs.Choices.{entry_of, pending_tasks}
-use Rattle.machine.specs.Runner.{one_less_left}
+use Rattle.machine.specs.Runner.{changed, one_less_left}
 use Rattle.parts.specs.declared.data.Slot.{Slot}
 use Rattle.parts.specs.declared.data.TaskTable.{TaskTable}
 use Rattle.parts.proofs.Maps.{upto, upto_below}
@@ -35,6 +35,31 @@ jobs_fallen ports f n few none slots e = fun_ext (λ t. elim (cases_lt t n) [
     fallen : (b : Bool) (s : Slot) → cond b (Some (job ports (one_less s))) None ≡ one_less_left (cond b (Some (job ports s)) None)
     fallen true s = refl
     fallen false s = refl
+
+-- a task taken out of the set of those pending
+pub cleared : (ports : ℕ) (f : TaskTable) (t pending : ℕ) → ((k : ℕ) → has pending k ≡ (not (eqb k t) && has f.pending k))
+    → ◌≡◌ {A = Table} (λ k. cond (has pending k) (Some (job ports (get_or f.slots k no_slot))) None) (changed (jobs ports f) t None)
+cleared ports f t pending without = fun_ext (λ k. let j = Some (job ports (get_or f.slots k no_slot)) in ap (λ b. cond b j None) (without k) ∙ out (eqb k t) (has f.pending k) j)
+  where
+    out : (b c : Bool) (j : Option Job) → cond (not b && c) j None ≡ cond b None (cond c j None)
+    out true true j = refl
+    out true false j = refl
+    out false true j = refl
+    out false false j = refl
+
+-- a task put into it, with a slot of its own
+pub released : (ports : ℕ) (f : TaskTable) (t pending : ℕ) (s : Slot) (k : Job) → t < length f.slots → ((k : ℕ) → has pending k ≡ (eqb k t || has f.pending k)) → job ports s ≡ k
+    → ◌≡◌ {A = Table} (λ i. cond (has pending i) (Some (job ports (get_or (set f.slots t s) i no_slot))) None) (changed (jobs ports f) t (Some k))
+released ports f t pending s k low with_t is = fun_ext (λ i. elim (cases_eq i t) [
+  | inl e ↦
+      cond-true (has pending i) _ _ (with_t i ∙ or_left (eqb i t) (has f.pending i) (eq-eqb i t e))
+      ∙ ap Some (ap (λ i. job ports (get_or (set f.slots t s) i no_slot)) e ∙ ap (job ports) (get_or-set_same f.slots t s no_slot low) ∙ is)
+      ∙ sym (cond-true (eqb i t) _ _ (eq-eqb i t e))
+  | inr ne ↦
+      ap (λ b. cond b (Some (job ports (get_or (set f.slots t s) i no_slot))) None) (with_t i ∙ ap (λ b. b || has f.pending i) (ne_eqb i t ne))
+      ∙ ap (λ s. cond (has f.pending i) (Some (job ports s)) None) (get_or-set_other f.slots t i s no_slot ne)
+      ∙ sym (cond-false (eqb i t) _ _ (ne_eqb i t ne))
+])
 
 -- one task more, listed if it is pending
 pub one_more : (ports : ℕ) (f : TaskTable) (t : ℕ) (b : Bool) → b ≡ is_pending (jobs ports f) t

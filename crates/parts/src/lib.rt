@@ -4,6 +4,5 @@
 pub mod data;
 pub mod feed;
 pub mod queue;
-pub mod sets;
 pub mod table;
 pub mod wiring;

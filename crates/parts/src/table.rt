@@ -8,7 +8,6 @@ ghost use Rattle.machine.specs.Calls.{pending_numbers};
 ghost use Rattle.parts.specs.Shown.{no_slot, one_less, jobs, Chargeable, written};
 
 use crate::data::{Slot, TaskTable};
-use crate::sets::{lowest_in, with_task, without_task};
 use arrayvec::ArrayVec;
 use ecode::set::has_member;
 use host::host::Host;
@@ -69,7 +68,8 @@ impl TaskTable {
     pub fn touched(&self, set: u8) -> Option<u8>
         ensures { (ports : ℕ) → result ≡ lowest 8 (λ t. has set t && is_pending (jobs ports self.now) t) }
     {
-        lowest_in(set & self.pending)
+        let touched = set & self.pending;
+        (touched != 0).then(|| touched.trailing_zeros() as u8)
     }
 
     // Whether task t is pending.
@@ -87,7 +87,7 @@ impl TaskTable {
         ensures { jobs ports self.new ≡ changed (jobs ports self.old) t (Some (record { left = window; used = 0; taken = H.Host.ports host.now })) }
     {
         self.slots[t as usize].begin(window, host, ports);
-        self.pending = with_task(self.pending, t);
+        self.pending |= 1 << t;
     }
 
     // The running task has used one slot more: it is answered if its budget is used up.
@@ -107,7 +107,8 @@ impl TaskTable {
         requires { t < 8 }
         ensures { (ports : ℕ) → jobs ports self.new ≡ changed (jobs ports self.old) t None }
     {
-        self.pending = without_task(self.pending, t);
+        // Read by its name, and not through `&=`: so the proof knows that the set is a byte.
+        self.pending = self.pending & !(1 << t);
     }
 
     // The pending tasks below `tasks`, by rising number.

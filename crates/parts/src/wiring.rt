@@ -6,7 +6,6 @@ ghost use Rattle.machine.specs.Runner.{kinds_of};
 ghost use Rattle.parts.specs.Wired.{sensors_from, WiredFor};
 
 use crate::data::Wiring;
-use crate::sets::with_task;
 use arrayvec::ArrayVec;
 use ecode::port::PortKind;
 use ecode::sharing::sharing;
@@ -19,7 +18,7 @@ fn shared_tasks(sheet: &Sheet, d: u8) -> u8
     let mut set = 0u8;
     for t in 0..sheet.tasks {
         if sharing(sheet, d, t) {
-            set = with_task(set, t);
+            set |= 1 << t;
         }
     }
     set
