@@ -41,6 +41,7 @@ pub struct Trailer {
 }
 
 // The lines at the addresses below count, with the bounds that all code over them rests on.
+// Plain fields, as the project's rule has it, and `Copy`, which an `ArrayVec` is not.
 #[derive(Clone, Copy)]
 pub struct Listing {
     pub lines: [Line; 200],

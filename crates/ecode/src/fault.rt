@@ -55,7 +55,8 @@ pub enum Layer {
     Load,
 }
 
-// A refusal as the caller reads it. The place is a byte, an address or a task, by the number. Numbers and places are the C interface's.
+// A refusal as the caller reads it. The place is a byte, an address or a task, by the number. Refusals are told
+// by number, to callers in C too; the code goes by the faults.
 #[derive(Clone, Copy, PartialEq, Eq)]
 pub struct Refusal {
     pub number: u8,

@@ -4,7 +4,8 @@ ghost use Rattle.host.specs.Meaning.{Meaning, Lawful, reading};
 
 use ecode::sheet::Sheet;
 
-// What a call changes is said of `ports`, by the functions of `meaning`; no call changes `meaning`.
+// What a call changes is said of `ports`, by the functions of `meaning`; no call changes `meaning`. Each call says so for itself: it is
+// a fact of a call, and no invariant of a value.
 // A number off the sheet is no error: `put`, `drive` and `work` then change nothing, `look` answers 0 and `test` false.
 pub trait Host {
     // the values of the ports, port 0 first

@@ -10,7 +10,7 @@ use ecode::fault::ImageFault;
 use ecode::sheet::Sheet;
 use ecode::ticks::is_tick_count;
 
-// The instruction that an opcode and its operands make.
+// The instruction that an opcode and its operands make. The opcode is a number here alone, where the image format is read.
 fn decode(sheet: &Sheet, opcode: u8, x: u8, y: u8, z: u8) -> Option<Instruction>
     ensures { result ≡ decoded sheet.now opcode x y z }
 {

@@ -16,6 +16,7 @@ pub enum RunFault {
 }
 
 // A refusal as the caller reads it. The place is a number of readings, a task or a port, by the number.
+// Refusals are told by number, as the project's rule has it; the code goes by RunFault.
 #[derive(Clone, Copy, PartialEq, Eq)]
 pub struct RunRefusal {
     pub number: u8,

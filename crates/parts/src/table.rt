@@ -54,6 +54,7 @@ impl TaskTable {
     }
 
     // Every pending task has one tick less left. No task from `tasks` on is pending.
+    // The number of tasks comes with each call, and its bound with it: a table knows no sheet, and of a fresh one no number is asked.
     pub fn count_down(&mut self, tasks: u8)
         requires few { tasks ≤ 8 }
         requires below { (t : ℕ) → tasks ≤ t → has self.old.pending t ≡ false }
@@ -135,6 +136,7 @@ impl TaskTable {
     {
         let list = self.list(tasks);
         *bytes = [255; 8];
+        // By index: a proof sees nothing of what a zip with iter_mut writes.
         for (i, pending) in list.iter().enumerate() {
             bytes[i] = pending.task;
         }

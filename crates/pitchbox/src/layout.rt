@@ -8,6 +8,7 @@ use crate::opcode::Opcode;
 use crate::rule::ensure;
 use ecode::sheet::Sheet;
 use ecode::ticks::is_tick_count;
+use image::trailer_bytes;
 use std::fmt;
 use thiserror::Error;
 
@@ -53,19 +54,17 @@ impl Trailer {
     pub fn of(image: &[u8]) -> Option<Trailer>
         ensures { MatchOption result (length image.now < 8) (TrailerIs image.now) }
     {
-        let [.., high, low, entry, tasks, drivers, conditions, form, mark] = image else {
-            return None;
-        };
+        let [high, low, entry, tasks, drivers, conditions, form, mark] = trailer_bytes(image)?;
         Some(Trailer {
-            length: u16::from_be_bytes([*high, *low]),
-            entry: *entry,
+            length: u16::from_be_bytes([high, low]),
+            entry,
             counts: Counts {
-                tasks: *tasks,
-                drivers: *drivers,
-                conditions: *conditions,
+                tasks,
+                drivers,
+                conditions,
             },
-            form: *form,
-            mark: *mark,
+            form,
+            mark,
         })
     }
 }

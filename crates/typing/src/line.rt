@@ -16,21 +16,22 @@ use ecode::fault::CodeFault;
 use ecode::lines::line_or;
 use ecode::sheet::Sheet;
 
-// A listing under a sheet, with pairs that fit the arithmetic on them.
+// An address of a listing under a sheet, with pairs that fit the arithmetic on them.
 #[derive(Clone, Copy)]
-struct Code<'a> {
+struct Place<'a> {
     sheet: &'a Sheet,
     listing: &'a Listing,
+    address: u16,
     ghost sound: { Sound (lines_of listing.now) },
+    ghost inside: { address < listing.now.count },
 }
 
-impl Code<'_> {
-    // The line at an address.
-    fn line(&self, a: u16) -> &Line
-        requires { a < self.now.listing.now.count }
-        ensures { result.now ≡ line_in self.now.listing.now a }
+impl Place<'_> {
+    // The line here.
+    fn line(&self) -> &Line
+        ensures { result.now ≡ line_in self.now.listing.now self.now.address }
     {
-        &self.listing.in_use()[usize::from(a)]
+        &self.listing.in_use()[usize::from(self.address)]
     }
 
     // Whether a row flows into the row at an address.
@@ -41,44 +42,41 @@ impl Code<'_> {
     }
 
     // What the instruction makes of the row flows into the next row, if there is one.
-    fn flows_on(&self, a: u16) -> bool
-        requires { a < self.now.listing.now.count }
-        ensures { result ≡ flows_next self.now.sheet.now (line_in self.now.listing.now a) (line_in self.now.listing.now (a + 1)) }
+    fn flows_on(&self) -> bool
+        ensures { result ≡ flows_next self.now.sheet.now (line_in self.now.listing.now self.now.address) (line_in self.now.listing.now (self.now.address + 1)) }
     {
-        let line = self.line(a);
-        !has_next(line.instruction) || self.flows_at(&row_after(self.sheet, line), a + 1)
+        let line = self.line();
+        !has_next(line.instruction)
+            || self.flows_at(&row_after(self.sheet, line), self.address + 1)
     }
 
     // What the instruction leaves to its target flows into the row there, if it has one.
-    fn flows_to_target(&self, a: u16) -> bool
-        requires { a < self.now.listing.now.count }
-        ensures { allows self.now.sheet.now (line_in self.now.listing.now a) ≡ true → result ≡ flows_there self.now.sheet.now (line_in self.now.listing.now a) (line_in self.now.listing.now (target (line_in self.now.listing.now a).instruction)) }
+    fn flows_to_target(&self) -> bool
+        ensures { allows self.now.sheet.now (line_in self.now.listing.now self.now.address) ≡ true → result ≡ flows_there self.now.sheet.now (line_in self.now.listing.now self.now.address) (line_in self.now.listing.now (target (line_in self.now.listing.now self.now.address).instruction)) }
     {
-        let line = self.line(a);
+        let line = self.line();
         match target_of(line.instruction) {
             Some(to) => self.flows_at(&row_at_target(self.sheet, line), to),
             None => true,
         }
     }
 
-    // Whether the row at the entry holds all tasks, where the entry is at this address.
-    fn starts_held(&self, a: u16) -> bool
-        requires { a < self.now.listing.now.count }
-        ensures { result ≡ (not (a == self.now.listing.now.entry) || all_below self.now.sheet.now.tasks (λ t. held (cell (line_in self.now.listing.now a) t))) }
+    // Whether the row holds all tasks, if the entry is here.
+    fn starts_held(&self) -> bool
+        ensures { result ≡ (not (self.now.address == self.now.listing.now.entry) || all_below self.now.sheet.now.tasks (λ t. held (cell (line_in self.now.listing.now self.now.address) t))) }
     {
-        a != self.listing.entry || all_held(self.sheet, &self.line(a).row)
+        self.address != self.listing.entry || all_held(self.sheet, &self.line().row)
     }
 
-    fn is_well_typed(&self, a: u16) -> bool
-        requires { a < self.now.listing.now.count }
-        ensures { result ≡ well_typed self.now.sheet.now (lines_of self.now.listing.now) self.now.listing.now.entry a }
+    fn is_well_typed(&self) -> bool
+        ensures { result ≡ well_typed self.now.sheet.now (lines_of self.now.listing.now) self.now.listing.now.entry self.now.address }
     {
-        let line = self.line(a);
+        let line = self.line();
         row_allows(self.sheet, line)
-            && self.flows_on(a)
-            && self.flows_to_target(a)
+            && self.flows_on()
+            && self.flows_to_target()
             && parts_with_a_task(line.instruction, &line.row)
-            && self.starts_held(a)
+            && self.starts_held()
     }
 }
 
@@ -87,8 +85,18 @@ pub fn check_typing(sheet: &Sheet, listing: &Listing) -> Result<(), CodeFault>
     requires { Sound (lines_of listing.now) }
     ensures { Judged (typing_rules sheet.now (lines_of listing.now) listing.now.entry listing.now.count) (λ _. Unit {0}) result }
 {
-    let code = Code { sheet, listing };
-    match (0..listing.count).find(|a| !code.is_well_typed(*a)) {
+    let is_well_typed = |address: u16| -> bool
+        requires sound { Sound (lines_of listing.now) }
+        requires inside { address < listing.now.count }
+    {
+        let place = Place {
+            sheet,
+            listing,
+            address,
+        };
+        place.is_well_typed()
+    };
+    match (0..listing.count).find(|a| !is_well_typed(*a)) {
         Some(address) => Err(CodeFault::Typing { address }),
         None => Ok(()),
     }
