@@ -56,6 +56,7 @@ impl PitchHost {
     }
 }
 
+// Ports are put and looked at by PortValues, in a line each; what is left is what tells hosts apart. A number off the sheet does nothing.
 impl Host for PitchHost {
     ghost ports = { λ s. s.ports.values };
 

@@ -1,11 +1,10 @@
 // The records of an image, read into a listing.
-ghost use Rattle.std.specs.Prelude.{◌≡◌};
 ghost use Rattle.ecode.specs.Rules.{Judged};
-ghost use Rattle.ecode.specs.Verdict.{layout_rules, lines_of};
+ghost use Rattle.ecode.specs.Verdict.{layout_rules};
 ghost use Rattle.ecode.specs.Parts.{FromTrailer, FromRecords};
 
 use crate::record::read_line;
-use ecode::code::{BLANK, Line, Listing, Trailer};
+use ecode::code::{BLANK, Listing, Trailer};
 use ecode::fault::ImageFault;
 use ecode::sheet::Sheet;
 

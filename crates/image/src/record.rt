@@ -2,7 +2,7 @@
 ghost use Rattle.std.specs.Prelude.{◌≡◌, ◌<◌, length, if◌then◌else◌, Some, None};
 ghost use Rattle.ecode.specs.Rules.{Judged};
 ghost use Rattle.ecode.specs.Instructions.{aimed};
-ghost use Rattle.ecode.specs.Image.{decoded, cell_of, is_ticks, row_fine, row_in, line};
+ghost use Rattle.ecode.specs.Image.{decoded, cell_of, row_fine, row_in, line};
 ghost use Rattle.ecode.specs.Verdict.{record_rules};
 
 use ecode::code::{Cell, Instruction, Line};
@@ -10,7 +10,7 @@ use ecode::fault::ImageFault;
 use ecode::sheet::Sheet;
 use ecode::ticks::is_tick_count;
 
-// The instruction that an opcode and its operands make. The opcode is a number here alone, where the image format is read.
+// The instruction that an opcode and its operands make. The opcode is a byte of the image format, and a number only where one is read.
 fn decode(sheet: &Sheet, opcode: u8, x: u8, y: u8, z: u8) -> Option<Instruction>
     ensures { result ≡ decoded sheet.now opcode x y z }
 {

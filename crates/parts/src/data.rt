@@ -32,7 +32,8 @@ pub struct Slot {
 }
 
 // The set of pending tasks, bit t for task t, and a slot for each task.
-// A mask beside the slots and no Option in each: the project's task sets are masks, and with Options a tick took 4 to 14 in 100 more instructions.
+// A mask beside the slots and no Option in each: task sets are masks by the project's rule. With Options a tick took 4 to 14 in 100 more
+// instructions.
 #[derive(Clone, Copy)]
 pub struct TaskTable {
     pub pending: u8,

@@ -1,11 +1,11 @@
 // The table of tasks.
-ghost use Rattle.std.specs.Prelude.{◌≡◌, ℕ, ◌-◌, ◌<◌, ◌≤◌, true, false, ◌&&◌, ◌++◌, map, take, Some, None, slice_index};
+ghost use Rattle.std.specs.Prelude.{◌≡◌, ℕ, ◌-◌, ◌<◌, ◌≤◌, false, ◌&&◌, take, Some, None, slice_index};
 ghost use Rattle.ecode.specs.Wiring.{has};
 ghost use Rattle.machine.specs.State.{is_pending};
 ghost use Rattle.machine.specs.Runner.{changed, lowest, one_less_left, charged, exhausted};
 ghost use Rattle.machine.specs.Choices.{pending_tasks};
 ghost use Rattle.machine.specs.Calls.{pending_numbers};
-ghost use Rattle.parts.specs.Shown.{no_slot, one_less, jobs, Chargeable, written};
+ghost use Rattle.parts.specs.Shown.{one_less, jobs, Chargeable, written};
 
 use crate::data::{Slot, TaskTable};
 use arrayvec::ArrayVec;

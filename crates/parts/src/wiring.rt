@@ -11,7 +11,7 @@ use ecode::port::PortKind;
 use ecode::sharing::sharing;
 use ecode::sheet::Sheet;
 
-// The tasks that driver d shares with.
+// The tasks that driver d shares with. The loop goes over what the set holds, the numbers of tasks.
 fn shared_tasks(sheet: &Sheet, d: u8) -> u8
     ensures { (t : ℕ) → has result t ≡ (nat_lt t sheet.now.tasks && shares sheet.now d t) }
 {

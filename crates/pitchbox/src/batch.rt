@@ -72,6 +72,7 @@ fn run_other(rt: &HostRuntime, words: &[&str]) -> io::Result<Outcome> {
         }
         Err(mistake) => Err(Failure::from(mistake)),
     };
+    // One match over three ends, which `or_else` would only hide.
     match outcome {
         Ok(outcome) => Ok(outcome),
         Err(Failure::Output(error)) => Err(error),

@@ -134,6 +134,7 @@ pub enum Misfit {
     Wait,
     #[error("The kept set, operand 3, has a task that this drive lacks")]
     Kept,
+    // the operand's own number, as it is shown
     #[error("Operand {0} has no use here and must be 0")]
     Unused(u8),
 }

@@ -47,7 +47,7 @@ impl fmt::Display for State {
     }
 }
 
-// The same in words, for a sentence.
+// The same in words, for a sentence: a type of its own, since only the words differ and they are all of it.
 #[derive(Clone, Copy)]
 pub struct Told(pub Cell);
 

@@ -148,7 +148,7 @@ impl fmt::Display for Counted {
     }
 }
 
-// What the check has words for, shown by its word.
+// What the check has words for, shown by its word. One impl for each kind: only the words differ, and they are all of it.
 #[derive(Clone, Copy)]
 pub struct Named<T>(pub T);
 

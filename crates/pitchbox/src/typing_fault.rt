@@ -64,6 +64,7 @@ impl<'a> Step<'a> {
         })
     }
 
+    // The rules of one task, whose cells stand at its number in three rows. The third may be missing, so the rows are not zipped.
     fn check_task(&self, t: u8) -> Result<(), Break>
         requires { t < 8 }
     {

@@ -1,5 +1,5 @@
 // The beginning of a tick: the slot that ended is charged, and time passes.
-ghost use Rattle.std.specs.Prelude.{◌≡◌, ℕ, ◌≤◌, false, List, [], length, None, slice_index};
+ghost use Rattle.std.specs.Prelude.{◌≡◌, ℕ, ◌≤◌, false, List, [], None, slice_index};
 ghost use Rattle.machine.specs.State.{Ports, Event, is_pending};
 ghost use Rattle.machine.specs.Runner.{charged, exhausted, opening};
 ghost use Rattle.parts.specs.declared.data.Wiring.{Wiring};

@@ -46,8 +46,7 @@ impl Place<'_> {
         ensures { result ≡ flows_next self.now.sheet.now (line_in self.now.listing.now self.now.address) (line_in self.now.listing.now (self.now.address + 1)) }
     {
         let line = self.line();
-        !has_next(line.instruction)
-            || self.flows_at(&row_after(self.sheet, line), self.address + 1)
+        !has_next(line.instruction) || self.flows_at(&row_after(self.sheet, line), self.address + 1)
     }
 
     // What the instruction leaves to its target flows into the row there, if it has one.

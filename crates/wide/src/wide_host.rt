@@ -37,6 +37,7 @@ impl WideHost {
     }
 }
 
+// Ports are put and looked at by PortValues, in a line each; what is left is what tells hosts apart. A number off the sheet does nothing.
 impl Host for WideHost {
     ghost ports = { λ s. s.ports.values };
 
