@@ -2,6 +2,7 @@
 #![tactic(auto)]
 
 mod listing;
+mod opcode;
 mod record;
 mod trailer;
 
@@ -10,6 +11,8 @@ ghost use Rattle.ecode.specs.Verdict.{image_rules};
 ghost use Rattle.ecode.specs.Parts.{FromImage};
 
 use crate::listing::read_listing;
+pub use crate::opcode::{NoOpcode, Opcode};
+pub use crate::record::read_cell;
 use crate::trailer::read_trailer;
 pub use crate::trailer::trailer_bytes;
 use ecode::code::Listing;

@@ -5,36 +5,42 @@ ghost use Rattle.ecode.specs.Instructions.{aimed};
 ghost use Rattle.ecode.specs.Image.{decoded, cell_of, row_fine, row_in, line};
 ghost use Rattle.ecode.specs.Verdict.{record_rules};
 
+use crate::opcode::Opcode;
 use ecode::code::{Cell, Instruction, Line};
 use ecode::fault::ImageFault;
 use ecode::sheet::Sheet;
 use ecode::ticks::is_tick_count;
 
-// The instruction that an opcode and its operands make. The opcode is a byte of the image format, and a number only where one is read.
+// The instruction that an opcode and its operands make.
 fn decode(sheet: &Sheet, opcode: u8, x: u8, y: u8, z: u8) -> Option<Instruction>
     ensures { result ≡ decoded sheet.now opcode x y z }
 {
     let to = u16::from(y);
-    match opcode {
-        1 => (x < sheet.drivers && y == 0 && z == 0).then_some(Instruction::Call { driver: x }),
-        2 => (x < sheet.tasks && is_tick_count(y) && z == 0).then_some(Instruction::Release {
-            task: x,
-            window: y,
+    match Opcode::try_from(opcode).ok()? {
+        Opcode::Call => (x < sheet.drivers && y == 0 && z == 0).then_some(Instruction::Call {
+            driver: x,
         }),
-        3 => (is_tick_count(x) && u16::from(z) < 1 << sheet.tasks).then_some(Instruction::Future {
-            wait: x,
+        Opcode::Release => (x < sheet.tasks && is_tick_count(y) && z == 0).then_some(
+            Instruction::Release { task: x, window: y },
+        ),
+        Opcode::Future => (is_tick_count(x) && u16::from(z) < 1 << sheet.tasks).then_some(
+            Instruction::Future {
+                wait: x,
+                to,
+                kept: z,
+            },
+        ),
+        Opcode::If => (x < sheet.conditions && z == 0).then_some(Instruction::If {
+            condition: x,
             to,
-            kept: z,
         }),
-        4 => (x < sheet.conditions && z == 0).then_some(Instruction::If { condition: x, to }),
-        5 => (x == 0 && z == 0).then_some(Instruction::Jump { to }),
-        6 => (x == 0 && y == 0 && z == 0).then_some(Instruction::Return),
-        _ => None,
+        Opcode::Jump => (x == 0 && z == 0).then_some(Instruction::Jump { to }),
+        Opcode::Return => (x == 0 && y == 0 && z == 0).then_some(Instruction::Return),
     }
 }
 
 // What a row's pair says of task t.
-fn read_cell(tasks: u8, t: u8, consumed: u8, remaining: u8) -> Option<Cell>
+pub fn read_cell(tasks: u8, t: u8, consumed: u8, remaining: u8) -> Option<Cell>
     ensures { result ≡ cell_of tasks t consumed remaining }
 {
     match (consumed, remaining) {

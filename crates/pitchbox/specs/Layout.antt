@@ -1,32 +1,18 @@
 -- An image's bytes as pitchbox tells of them.
---   byte_of       the byte that stands for an opcode
---   Decodes       what a byte is read as: the opcode that it stands for, or none
 --   going         an instruction of an opcode that goes to an address
 --   misfit_byte   the byte of a record that does not fit
 --   TrailerIs     a trailer has the last 8 bytes of an image
 --   RecordIs      a record has the bytes of an image at an address
-use Rattle.std.specs.Prelude.{◌≡◌, ℕ, ◌<◌, ◌≤◌, List, drop, Result, MatchResult, slice_index}
+use Rattle.std.specs.Prelude.{◌≡◌, ℕ, ◌<◌, ◌≤◌, List, drop, slice_index}
 use Rattle.ecode.specs.declared.code.Instruction.{Instruction}
 use Rattle.ecode.specs.declared.code.Instruction.TheVariants as instruction
 use Rattle.ecode.specs.Image.{trailer_byte, told, entry, record_at}
-use Rattle.pitchbox.specs.declared.opcode.Opcode.{Opcode}
-use Rattle.pitchbox.specs.declared.opcode.Opcode.TheVariants.{Call, Release, Future, If, Jump, Return}
-use Rattle.pitchbox.specs.declared.opcode.NoOpcode.{NoOpcode}
+use Rattle.image.specs.declared.opcode.Opcode.{Opcode}
+use Rattle.image.specs.declared.opcode.Opcode.TheVariants.{Call, Release, Future, If, Jump, Return}
 use Rattle.pitchbox.specs.declared.layout.Misfit.{Misfit}
 use Rattle.pitchbox.specs.declared.layout.Misfit.TheVariants as misfit
 use Rattle.pitchbox.specs.declared.layout.Trailer.{Trailer}
 use Rattle.pitchbox.specs.declared.layout.Record.{Record}
-
-abbrev pub byte_of : Opcode → ℕ
-byte_of Call = 1
-byte_of Release = 2
-byte_of Future = 3
-byte_of If = 4
-byte_of Jump = 5
-byte_of Return = 6
-
-abbrev pub Decodes : ℕ → Result Opcode NoOpcode → Type 0
-Decodes b r = MatchResult r (λ o. b ≡ byte_of o) (λ _. 1 ≤ b → 6 < b)
 
 -- the operands that say nothing of where it goes are 0
 abbrev pub going : Opcode → ℕ → Instruction

@@ -1,9 +1,10 @@
 // What is wrong with an image: the bytes behind the numbers 1 to 8.
 use crate::layout::{Counts, Pair, Record, Trailer, records, start_of};
 use crate::names::{Counted, Part};
-use crate::opcode::{Astray, Opcode};
+use crate::target::{Astray, check_target};
 use ecode::fault::ImageFault;
 use ecode::sheet::Sheet;
+use image::Opcode;
 use std::fmt;
 
 // An image with a fault of its layout.
@@ -84,7 +85,7 @@ fn bad_pair(record: Record<'_>, tasks: u8) -> Option<Pair> {
 // Why an address that an instruction goes to is no good, with its opcode and the address that it names.
 fn find_astray(record: Record<'_>, address: u16, count: usize) -> Option<(Opcode, u8, Astray)> {
     let opcode = Opcode::try_from(record.opcode).ok()?;
-    let astray = opcode.check_target(record.y, address, count).err()?;
+    let astray = check_target(opcode, record.y, address, count).err()?;
     Some((opcode, record.y, astray))
 }
 

@@ -4,11 +4,10 @@ ghost use Rattle.ecode.specs.Image.{decoded, cell_of};
 ghost use Rattle.pitchbox.specs.Layout.{TrailerIs, RecordIs, misfit_byte};
 
 use crate::names::Counted;
-use crate::opcode::Opcode;
 use crate::rule::ensure;
 use ecode::sheet::Sheet;
 use ecode::ticks::is_tick_count;
-use image::trailer_bytes;
+use image::{Opcode, read_cell, trailer_bytes};
 use std::fmt;
 use thiserror::Error;
 
@@ -106,14 +105,7 @@ impl Pair {
     pub fn fits(self, tasks: u8) -> bool
         ensures { result ≡ is_some (cell_of tasks self.task self.consumed self.remaining) }
     {
-        match (self.consumed, self.remaining) {
-            (255, 0) => true,
-            (254, 0) => self.task < tasks,
-            (consumed, remaining) => {
-                let total = u16::from(consumed) + u16::from(remaining);
-                self.task < tasks && 1 <= total && total <= 240
-            }
-        }
+        read_cell(tasks, self.task, self.consumed, self.remaining).is_some()
     }
 }
 

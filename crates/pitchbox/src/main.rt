@@ -14,11 +14,11 @@ mod layout;
 mod listing;
 mod load_fault;
 mod names;
-mod opcode;
 mod place;
 mod report;
 mod rule;
 mod run;
+mod target;
 mod typing_fault;
 mod words;
 
