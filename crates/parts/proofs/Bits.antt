@@ -83,6 +83,20 @@ lowest_further f n (suc m) h e = elim (cases_lt m n) [
     last None = refl
     last (Some x) = refl
 
+-- either side of an `or` may stand first
+pub or_swap : (x y : Bool) → (x || y) ≡ (y || x)
+or_swap true true = refl
+or_swap true false = refl
+or_swap false true = refl
+or_swap false false = refl
+
+-- and either side of an `and`
+pub and_swap : (x y : Bool) → (x && y) ≡ (y && x)
+and_swap true true = refl
+and_swap true false = refl
+and_swap false true = refl
+and_swap false false = refl
+
 -- the members below t that pass, and t itself
 module _ (test : ℕ → Bool) (t : ℕ) (old : Bool) (k : ℕ) (e : old ≡ (ltb k t && test k)) where
   pub one_more_in : test t ≡ true → (eqb k t || old) ≡ (ltb k (t + 1) && test k)

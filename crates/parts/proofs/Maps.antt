@@ -1,5 +1,6 @@
 -- A loop that changes each element in its turn, over a whole list or over its front.
-use Rattle.std.proofs.Common.{◌≡◌, ℕ, zero, suc, ◌+◌, ◌-◌, ◌<◌, ◌≤◌, List, [], ◌∷◌, ◌++◌, map, length, get_or, take, drop, set, refl, ap, ◌∙◌, add-one, arith, take_all}
+use Rattle.std.proofs.Common.{◌≡◌, ℕ, zero, suc, ◌+◌, ◌-◌, ◌<◌, ◌≤◌, List, [], ◌∷◌, ◌++◌, map, length, get_or, take, drop, set, refl, ap, ◌∙◌, add-one, arith, length-append, length-drop, length-take, take_all}
+use lib.ListN.{length-map}
 use Rattle.std.proofs.lemmas.List.{drop_all, append-nil}
 
 module _ {X : Type 0} (f : X → X) where
@@ -19,11 +20,29 @@ module _ {X : Type 0} (f : X → X) where
   pub front_upto : (n : ℕ) (xs ys : List X) → ys ≡ map f (take (n - 0) xs) → ys ++ drop (n - 0) xs ≡ upto n xs
   front_upto n xs ys e = ap (λ l. l ++ drop (n - 0) xs) e ∙ ap (λ k. upto k xs) (let z : n - 0 ≡ n = omega arith in z)
 
+  -- as long as the list
+  pub length_upto : (n : ℕ) (xs : List X) → length (upto n xs) ≡ length xs
+  length_upto n xs = length-append (map f (take n xs)) (drop n xs) ∙ omega (arith, length-map (take n xs) f, length-take n xs, length-drop n xs)
+
+  -- its front is the front changed
+  pub take_upto : (n : ℕ) (xs : List X) → n ≤ length xs → take n (upto n xs) ≡ map f (take n xs)
+  take_upto zero xs h = refl
+  take_upto (suc n) [] h = absurd (omega arith)
+  take_upto (suc n) (x ∷ xs) h = ap (λ l. f x ∷ l) (take_upto n xs (omega arith))
+
+  -- a place below n is changed
   pub upto_below : (n : ℕ) (xs : List X) (k : ℕ) (d : X) → k < n → n ≤ length xs → get_or (upto n xs) k d ≡ f (get_or xs k d)
   upto_below zero xs k d h l = absurd (omega arith)
   upto_below (suc n) [] k d h l = absurd (omega arith)
   upto_below (suc n) (x ∷ xs) zero d h l = refl
   upto_below (suc n) (x ∷ xs) (suc k) d h l = upto_below n xs k d (omega arith) (omega arith)
+
+  -- one from n on is not
+  pub upto_above : (n : ℕ) (xs : List X) (k : ℕ) (d : X) → n ≤ k → get_or (upto n xs) k d ≡ get_or xs k d
+  upto_above zero xs k d h = refl
+  upto_above (suc n) [] k d h = refl
+  upto_above (suc n) (x ∷ xs) zero d h = absurd (omega arith)
+  upto_above (suc n) (x ∷ xs) (suc k) d h = upto_above n xs k d (omega arith)
 
 -- the first i places have got their values, which stand in ys
 module _ {X : Type 0} where

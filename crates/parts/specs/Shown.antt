@@ -14,7 +14,7 @@ use Rattle.parts.specs.declared.data.TaskTable.{TaskTable}
 
 -- the bindings that a queue holds
 abbrev pub queued : Queue → List Binding
-queued q = q.bindings.items
+queued q = take q.len q.items
 
 -- what stands past the end of the slots
 abbrev pub no_slot : Slot

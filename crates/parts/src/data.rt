@@ -1,26 +1,35 @@
 // The data of the parts, with the bounds that the code over them rests on.
 ghost use Rattle.std.specs.Prelude.{◌≡◌, ◌≤◌, length};
 
-use arrayvec::ArrayVec;
 use machine::binding::Binding;
 
+// The sensor ports of a sheet, in port order; the first `len` are meant. No ArrayVec, which cannot be copied.
+#[derive(Clone, Copy)]
+pub struct SensorPorts {
+    pub items: [u8; 32],
+    pub len: usize,
+    ghost wide: { length items ≡ 32 },
+    ghost few: { len ≤ 32 },
+}
+
 // What a run asks of its sheet at every tick, worked out once. A set of tasks is a mask, bit t for task t.
-#[derive(Drop)]
+#[derive(Clone, Copy)]
 pub struct Wiring {
     pub ports: u8,
     pub tasks: u8,
-    // the sensor ports, in port order
-    pub sensors: ArrayVec<u8, 32>,
+    pub sensors: SensorPorts,
     // for each driver the tasks that it shares with
     pub sharing: [u8; 32],
     ghost wide: { length sharing ≡ 32 },
 }
 
-// The bindings that wait, in the order in which they were made.
-#[derive(Drop)]
+// The bindings that wait, in the order in which they were made; the first `len` are meant. No ArrayVec, which cannot be copied.
+#[derive(Clone, Copy)]
 pub struct Queue {
-    pub bindings: ArrayVec<Binding, 8>,
-    ghost few: { length bindings.items ≤ 8 },
+    pub items: [Binding; 8],
+    pub len: usize,
+    ghost wide: { length items ≡ 8 },
+    ghost few: { len ≤ 8 },
 }
 
 // What the table keeps of one task, if it is pending: ticks left, slots used, and the ports as they were at its release.

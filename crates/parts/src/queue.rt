@@ -4,7 +4,6 @@ ghost use Rattle.machine.specs.Runner.{one_less_wait};
 ghost use Rattle.parts.specs.Shown.{queued, Takes};
 
 use crate::data::Queue;
-use arrayvec::ArrayVec;
 use machine::binding::Binding;
 
 impl Queue {
@@ -12,9 +11,10 @@ impl Queue {
     pub fn starting(at: u16) -> Queue
         ensures { queued result ≡ record { wait = 1; at = at } ∷ [] }
     {
-        let mut bindings = ArrayVec::new();
-        bindings.push(Binding { wait: 1, at });
-        Queue { bindings }
+        Queue {
+            items: [Binding { wait: 1, at }; 8],
+            len: 1,
+        }
     }
 
     // One binding more, at the end.
@@ -22,14 +22,15 @@ impl Queue {
         requires { length (queued self.old) < 8 }
         ensures { queued self.new ≡ queued self.old ++ (record { wait = wait; at = at } ∷ []) }
     {
-        self.bindings.push(Binding { wait, at });
+        self.items[self.len] = Binding { wait, at };
+        self.len += 1;
     }
 
     // Every wait falls by 1.
     pub fn count_down(&mut self)
         ensures { queued self.new ≡ map one_less_wait (queued self.old) }
     {
-        for binding in self.bindings.iter_mut() {
+        for binding in self.items[0..self.len].iter_mut() {
             binding.wait = binding.wait.saturating_sub(1);
         }
     }
@@ -38,7 +39,12 @@ impl Queue {
     pub fn take_due(&mut self) -> Option<u16>
         ensures { Takes (queued self.old) result (queued self.new) }
     {
-        let first = self.bindings.iter().position(|binding| binding.wait == 0)?;
-        Some(self.bindings.remove(first).at)
+        let first = self.items[..self.len]
+            .iter()
+            .position(|binding| binding.wait == 0)?;
+        let at = self.items[first].at;
+        self.items.copy_within(first + 1..self.len, first);
+        self.len -= 1;
+        Some(at)
     }
 }

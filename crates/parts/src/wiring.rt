@@ -3,10 +3,9 @@ ghost use Rattle.std.specs.Prelude.{◌≡◌, ℕ, ◌<◌, ◌&&◌, length, n
 ghost use Rattle.ecode.specs.Wiring.{has};
 ghost use Rattle.ecode.specs.Sheets.{shares};
 ghost use Rattle.machine.specs.Runner.{kinds_of};
-ghost use Rattle.parts.specs.Wired.{sensors_from, WiredFor};
+ghost use Rattle.parts.specs.Wired.{sensors_from, sensed, WiredFor};
 
-use crate::data::Wiring;
-use arrayvec::ArrayVec;
+use crate::data::{SensorPorts, Wiring};
 use ecode::port::PortKind;
 use ecode::sharing::sharing;
 use ecode::sheet::Sheet;
@@ -30,23 +29,25 @@ fn sharing_table(sheet: &Sheet) -> [u8; 32]
     ensures sharing { (d t : ℕ) → d < sheet.now.drivers → has (slice_index result d) t ≡ (nat_lt t sheet.now.tasks && shares sheet.now d t) }
 {
     let mut table = [0u8; 32];
-    for (d, shared) in table.iter_mut().enumerate() {
+    for (d, shared) in table[..sheet.drivers as usize].iter_mut().enumerate() {
         *shared = shared_tasks(sheet, d as u8);
     }
     table
 }
 
 // The sensor ports, in port order.
-fn sensor_ports(sheet: &Sheet) -> ArrayVec<u8, 32>
-    ensures { result.items ≡ sensors_from 0 (kinds_of sheet.now) }
+fn sensor_ports(sheet: &Sheet) -> SensorPorts
+    ensures { sensed result ≡ sensors_from 0 (kinds_of sheet.now) }
 {
-    let mut sensors = ArrayVec::new();
+    let mut items = [0u8; 32];
+    let mut len = 0usize;
     for (port, kind) in (0..sheet.ports).zip(&sheet.kinds) {
         if *kind == PortKind::Sensor {
-            sensors.push(port);
+            items[len] = port;
+            len += 1;
         }
     }
-    sensors
+    SensorPorts { items, len }
 }
 
 impl Wiring {

@@ -31,7 +31,7 @@ pub record Begun {H P : Type 0} (meaning : H → Meaning) (ports : H → Ports) 
   pub lawful : (h : H) → Lawful (meaning h)
   pub sound : SoundRun meaning ports mark r
   pub none : r.progress.stop ≡ None
-  pub enough : length rd ≡ length r.bench.wiring.sensors.items
+  pub enough : length rd ≡ r.bench.wiring.sensors.len
 
 module _ {H P : Type 0} {meaning : H → Meaning} {ports : H → Ports} {mark : P → Bool} {r : Run H P} {rd : List ℤ} (k : Begun meaning ports mark r rd) where
   abbrev m : Meaning
@@ -109,14 +109,15 @@ module _ {H P : Type 0} {meaning : H → Meaning} {ports : H → Ports} {mark : 
           (subst (Inside _) (sym (ap (λ (x : State). x.queue) opened)) (inside_fallen _ s.queue rests.inside))
 
       -- what the due loop comes to
-      abbrev whole : State
+      abbrev pub whole : State
       whole = threads m p (length s.queue) (opening m rd s slots)
 
       -- the same as the due loop's contract has it
-      abbrev due : State
+      abbrev pub due : State
       due = threads (meaning b₁.host) (loaded b₁) (length (queued g₁.queue)) (working ports b₁ [] g₁)
 
-      whole_is : due ≡ whole
+      -- it is what the due loop comes to
+      pub whole_is : due ≡ whole
       whole_is =
           ap (λ x. threads x (loaded b₁) (length (queued g₁.queue)) (working ports b₁ [] g₁)) u.same.host
           ∙ ap (λ q. threads m q (length (queued g₁.queue)) (working ports b₁ [] g₁)) (same_program meaning r.bench b₁ u.same)

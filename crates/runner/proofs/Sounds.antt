@@ -13,16 +13,15 @@ use Rattle.machine.specs.Begins.{RowsOfEight, Begins}
 use Rattle.machine.proofs.Reached.{leaves_bare, after_more, chosen_more, Steady, steady}
 use Rattle.parts.specs.Wired.{WiredFor}
 use Rattle.parts.specs.declared.data.Wiring.{Wiring}
-use Rattle.std.proofs.Math.Nat.{ℕ_set}
 use Rattle.runner.specs.declared.bench.Bench.{Bench}
 use Rattle.runner.specs.declared.run.Run.{Run}
 use Rattle.runner.specs.Standing.{program_of}
 use Rattle.runner.specs.Sound.{loaded, SoundBench, FitBench, SameBench, shown, SoundRun}
 use Rattle.runner.specs.Follows.{Follows}
 
--- a wiring that was lent out in parts comes back as it was
-pub returned : (w : Wiring) (wide : length w.sharing ≡ 32) → record { ports = w.ports; tasks = w.tasks; sensors = w.sensors; sharing = w.sharing; wide = wide } ≡ w
-returned w wide x = record { ports = w.ports; tasks = w.tasks; sensors = w.sensors; sharing = w.sharing; wide = ℕ_set (length w.sharing) 32 wide w.wide x }
+-- a host, a program and a wiring, as the bench that they make
+abbrev pub bench_of : {H : Type 0} → H → Program → Wiring → Bench H
+bench_of h p w = record { host = h; program = p; wiring = w }
 
 -- what a run rests on holds of it without its log
 bare_steady : (m : Meaning) (p : Contents) (s : State) → Steady m p s → Steady m p (bare s)

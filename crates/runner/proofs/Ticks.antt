@@ -1,5 +1,5 @@
 -- A tick of the code, step by step, is a tick of the reference runner.
-use Rattle.std.proofs.Common.{◌≡◌, ℕ, ◌<◌, ◌≤◌, Bool, true, false, cond, eqb, List, [], ◌∷◌, map, length, get_or, take, ℤ, is_some, Some, None, Ok, Err, Option, sym, refl, ap, ◌∙◌, subst, arith}
+use Rattle.std.proofs.Common.{◌≡◌, ℕ, ◌<◌, ◌≤◌, Bool, true, false, cond, eqb, List, [], ◌∷◌, map, length, get_or, take, ℤ, is_some, Some, None, Ok, Err, Option, sym, refl, ap, ◌∙◌, subst, arith, length-take}
 use Rattle.std.proofs.lemmas.List.{get_or-take}
 use Rattle.std.proofs.lemmas.Bool.{cond-true, cond-false, eqb-true}
 use Rattle.ecode.specs.Wiring.{has}
@@ -18,7 +18,7 @@ use Rattle.machine.proofs.Reached.{Busy, Steady}
 use Rattle.parts.specs.declared.data.TaskTable.{TaskTable}
 use Rattle.parts.specs.declared.data.Wiring.{Wiring}
 use Rattle.parts.specs.Shown.{no_slot, job, jobs, Chargeable}
-use Rattle.parts.specs.Wired.{WiredFor}
+use Rattle.parts.specs.Wired.{sensed, WiredFor}
 use Rattle.parts.proofs.Feeds.{sensors_many}
 use Rattle.runner.specs.declared.progress.Progress.{Progress}
 use Rattle.runner.specs.Standing.{standing}
@@ -26,8 +26,10 @@ use Rattle.runner.specs.Follows.{Leaves}
 use Rattle.runner.specs.Turns.{Inside}
 
 -- a wiring has as many sensors as a tick takes readings
-pub sensors_long : (s : Sheet) (w : Wiring) → WiredFor s w → length w.sensors.items ≡ sensor_count (kinds_of s)
-sensors_long s w r = ap length r.sensors ∙ sensors_many 0 (kinds_of s)
+pub sensors_long : (s : Sheet) (w : Wiring) → WiredFor s w → w.sensors.len ≡ sensor_count (kinds_of s)
+sensors_long s w r =
+    let long : length (sensed w.sensors) ≡ w.sensors.len = simp length-take (omega arith) in
+    sym long ∙ ap length r.sensors ∙ sensors_many 0 (kinds_of s)
 
 module _ (m : Meaning) (p : Contents) (rd : List ℤ) (s : State) (going : s.stop ≡ None) where
   -- refused for the number of its readings

@@ -10,12 +10,13 @@ use Rattle.ecode.specs.declared.code.Program.{Program}
 use Rattle.ecode.specs.Wiring.{has}
 use Rattle.ecode.specs.Sheets.{shares}
 use Rattle.ecode.specs.Typing.{blank}
-use Rattle.ecode.specs.Accepted.{Ranged, Aimed}
+use Rattle.ecode.specs.Accepted.{Bounded, Ranged, Aimed}
 use Rattle.host.specs.Meaning.{Meaning, Lawful}
 use Rattle.machine.specs.State.{Event, State, Table, is_pending, size, instruction_at}
 use Rattle.machine.specs.Runner.{lowest, touched, ports_after, queue_after, pending_after, next_after, performed, step}
 use Rattle.parts.specs.declared.data.Wiring.{Wiring}
 use Rattle.parts.specs.Wired.{WiredFor}
+use Rattle.parts.specs.Shown.{queued}
 use Rattle.parts.proofs.Bits.{lowest_same, lowest_further}
 use Rattle.runner.specs.Standing.{program_of}
 use Rattle.runner.specs.declared.bench.Bench.{Bench}
@@ -37,7 +38,7 @@ any_default (x ∷ xs) zero d e h = refl
 any_default (x ∷ xs) (suc i) d e h = any_default xs i d e (omega arith)
 
 -- the instruction that the code reads
-reads : (w : Wiring) (p : Program) (a : ℕ) → a < p.listing.count → (i : Instruction)
+pub reads : (w : Wiring) (p : Program) (a : ℕ) → a < p.listing.count → (i : Instruction)
     → (get_or p.listing.lines a (record { instruction = Call 0; row = [] })).instruction ≡ i → instruction_at (program_of w p) a ≡ i
 reads w p a l i e =
     ap (λ (x : Line). x.instruction) (get_or-take p.listing.count p.listing.lines a blank l ∙ any_default p.listing.lines a blank (record { instruction = Call 0; row = [] }) (omega arith)) ∙ e
@@ -49,9 +50,10 @@ pub record Read {H : Type 0} (meaning : H → Meaning) (b : Bench H) (a : ℕ) (
   pub low : a < b.program.listing.count
   pub is : instruction_at (loaded b) a ≡ i
 
-pub read : {H : Type 0} {meaning : H → Meaning} {b : Bench H} (lawful : (h : H) → Lawful (meaning h)) → FitBench meaning b → (a : ℕ) → a < b.program.listing.count → (i : Instruction)
+pub read : {H : Type 0} {meaning : H → Meaning} (lawful : (h : H) → Lawful (meaning h)) (b : Bench H) → WiredFor (meaning b.host).sheet b.wiring
+    → Bounded (meaning b.host).sheet (loaded b).entry (loaded b).lines → (a : ℕ) → a < b.program.listing.count → (i : Instruction)
     → (get_or b.program.listing.lines a (record { instruction = Call 0; row = [] })).instruction ≡ i → Read meaning b a i
-read {b = b} lawful fit a low i e = record { fit = fit; lawful = lawful b.host; low = low; is = reads b.wiring b.program a low i e }
+read lawful b wired bounds a low i e = record { fit = record { bounds = bounds; wired = wired }; lawful = lawful b.host; low = low; is = reads b.wiring b.program a low i e }
 
 module _ {H : Type 0} {meaning : H → Meaning} {b : Bench H} {a : ℕ} {i : Instruction} (k : Read meaning b a i) where
   abbrev m : Meaning
@@ -101,6 +103,10 @@ call_touches s w r few d l f =
 
 pub room_at : (n : ℕ) (j : Instruction) (x y k : ℕ) → Room n j → j ≡ Future x y k → n < 8
 room_at n j x y k r e = subst (Room n) e r
+
+-- as many bindings as the queue counts
+pub queue_long : (q : Queue) → length (queued q) ≡ q.len
+queue_long q = simp length-take (omega arith)
 
 -- the same with another queue
 abbrev pub requeued : Progress → Queue → Progress

@@ -4,14 +4,13 @@ ghost use Rattle.machine.specs.State.{Ports, Event, is_pending};
 ghost use Rattle.machine.specs.Runner.{charged, exhausted, opening};
 ghost use Rattle.parts.specs.declared.data.Wiring.{Wiring};
 ghost use Rattle.parts.specs.Shown.{jobs, Chargeable};
-ghost use Rattle.runner.specs.Standing.{standing, after_charge};
 ghost use Rattle.parts.specs.Wired.{WiredFor};
-ghost use Rattle.runner.specs.Sound.{SameBench, working};
+ghost use Rattle.runner.specs.Standing.{standing, after_charge};
 
-use crate::bench::Bench;
 use crate::progress::Progress;
 use host::host::Host;
 use machine::stop::Stop;
+use parts::data::Wiring;
 use parts::feed::feed;
 
 impl Progress {
@@ -30,15 +29,17 @@ impl Progress {
     }
 
     // Every pending task has one tick less left, the readings are put, and every wait falls by 1.
-    pub fn open<H: Host>(&mut self, bench: &mut Bench<H>, readings: &[i32])
-        requires wired { WiredFor (H.Host.meaning bench.old.host).sheet bench.old.wiring }
+    // Host and wiring come one by one, and not as a bench: whoever has the two may call.
+    pub fn open<H: Host>(&mut self, host: &mut H, wiring: &Wiring, readings: &[i32])
+        requires wired { WiredFor (H.Host.meaning host.old).sheet wiring.now }
         requires going { self.old.stop ≡ None }
-        requires below { (t : ℕ) → bench.old.wiring.tasks ≤ t → is_pending (jobs bench.old.wiring.ports self.old.table) t ≡ false }
-        ensures after { (l : List Event) → working H.Host.ports bench.new [] self.new ≡ opening (H.Host.meaning bench.old.host) readings.now (working H.Host.ports bench.old l self.old) (jobs bench.old.wiring.ports self.old.table) }
-        ensures same { SameBench H.Host.meaning bench.old bench.new }
+        requires below { (t : ℕ) → wiring.now.tasks ≤ t → is_pending (jobs wiring.now.ports self.old.table) t ≡ false }
+        ensures after { (l : List Event) → standing wiring.now (H.Host.ports host.new) [] self.new ≡ opening (H.Host.meaning host.old) readings.now (standing wiring.now (H.Host.ports host.old) l self.old) (jobs wiring.now.ports self.old.table) }
+        ensures same { H.Host.meaning host.new ≡ H.Host.meaning host.old }
     {
-        self.table.count_down(bench.wiring.tasks);
-        feed(&mut bench.host, &bench.wiring.sensors, readings);
+        self.table.count_down(wiring.tasks);
+        let sensors = &wiring.sensors;
+        feed(host, &sensors.items[..sensors.len], readings);
         self.queue.count_down();
     }
 }

@@ -25,14 +25,19 @@ impl<H: Host, P: Policy> Run<H, P> {
             return Err(RunFault::AfterStop { task: stop.task() });
         }
         let given = readings.len();
-        if given != self.bench.wiring.sensors.len() {
+        if given != self.bench.wiring.sensors.len {
             return Err(RunFault::Readings { given });
         }
         if let Some(task) = self.progress.charge(&self.bench.program.budgets) {
             return Err(RunFault::BudgetUsedUp { task });
         }
-        self.progress.open(&mut self.bench, readings);
-        let instructions = self.progress.run_due(&mut self.bench);
+        self.progress
+            .open(&mut self.bench.host, &self.bench.wiring, readings);
+        let instructions = self.progress.run_due(
+            &mut self.bench.host,
+            &self.bench.program,
+            &self.bench.wiring,
+        );
         if let Some(stop) = self.progress.stop {
             return Err(RunFault::from(stop));
         }

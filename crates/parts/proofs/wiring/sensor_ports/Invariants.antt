@@ -8,6 +8,7 @@ abbrev pub invariant-loop-port : goal.invariant-loop-port
 invariant-loop-port l =
     (goal.iterator-loop-port).can_next l.port-iterator
     × (goal.iterator-loop-port).is_finite l.port-iterator
-    × (length l.sensors.items ≤ l.port-iterator.a.start)
+    × (l.len ≤ l.port-iterator.a.start)
+    × (length l.items ≡ 32)
     × (l.port-iterator.a.start + length l.port-iterator.b.rest.now ≡ 32)
-    × (l.sensors.items ++ sensors_from l.port-iterator.a.start (take (l.port-iterator.a.end - l.port-iterator.a.start) l.port-iterator.b.rest.now) ≡ sensors_from 0 (kinds_of l.sheet))
+    × (take l.len l.items ++ sensors_from l.port-iterator.a.start (take (l.port-iterator.a.end - l.port-iterator.a.start) l.port-iterator.b.rest.now) ≡ sensors_from 0 (kinds_of l.sheet))

@@ -1,5 +1,5 @@
--- Each binding in its turn.
-use Rattle.std.proofs.Common.{◌<◌, length, get_or, set, ap, ◌∙◌, arith}
+-- The bindings that are meant, each in its turn.
+use Rattle.std.proofs.Common.{◌-◌, ◌<◌, length, get_or, take, set, ap, ◌∙◌, arith}
 use Rattle.machine.specs.Runner.{one_less_wait}
 use Rattle.parts.proofs.Queues.{none}
 use Rattle.parts.proofs.Maps.{upto_more}
@@ -7,7 +7,8 @@ use Rattle.parts.proofs.data.Queue.count_down.Goals as goal
 
 pub loop-binding-preserved : goal.loop-binding-preserved
 loop-binding-preserved c =
-    let old = c.deref_mut-binding-items.result.now in
+    let q = c.args.self.now in
+    let old = take (q.len - 0) q.items in
     let i = c.loop-binding.binding-index in
     let now = c.loop-binding.binding-items in
     let lt : i < length old = omega arith in

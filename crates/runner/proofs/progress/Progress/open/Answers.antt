@@ -1,6 +1,4 @@
 -- Table, ports and queue, each as the reference runner opens a tick.
-use Rattle.std.proofs.Common.{refl}
-use Rattle.runner.proofs.Sounds.{returned}
 use Rattle.runner.proofs.progress.Progress.open.Goals as goal
 
 pub returns : goal.returns
@@ -9,10 +7,10 @@ returns g c =
       after = λ l x. record {
         ports = c.feed.ensures.ports x;
         queue = c.count_down-2.ensures x;
-        pending = c.count_down.ensures c.args.bench.now.wiring.ports x;
+        pending = c.count_down.ensures c.args.wiring.now.ports x;
         running = c.args.self.now.running;
         stop = c.requires.going x;
         log = mathlib.Core.List.[];
       };
-      same = record { host = c.feed.ensures.same; program = refl; wiring = returned c.args.bench.now.wiring _ };
+      same = c.feed.ensures.same;
     }

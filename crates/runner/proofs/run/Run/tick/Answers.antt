@@ -5,13 +5,13 @@ use Rattle.machine.specs.State.{bare}
 use Rattle.machine.specs.Runner.{kinds_of}
 use Rattle.machine.specs.Calls.{Tick, counts, sensor_count, leaves}
 use Rattle.runner.specs.Sound.{loaded, shown}
-use Rattle.runner.proofs.Sounds.{unchanged, fit, fit_kept, follows}
+use Rattle.runner.proofs.Sounds.{bench_of, unchanged, fit, fit_kept, follows}
 use Rattle.runner.proofs.Ticks.{sensors_long, refused, refuses, chargeable, stop_leaves}
 use Rattle.runner.proofs.Phases.{Begun, Charged, Opened, Ended, rests, over_state, over_answer, over_asked, still_going, still_below, no_stop, queue_inside, room, kept, stop_state, stop_answer, stop_asked, ran_state, ran_answer_is, ran_asked}
 use Rattle.runner.proofs.run.Run.tick.Goals as goal
 
-pub returns-then-given-len : goal.returns-then-given-len
-returns-then-given-len g c =
+pub returns-then-given-self : goal.returns-then-given-self
+returns-then-given-self g c =
     let M = g.H.Host.meaning in
     let r = c.args.self.now in
     let rd = c.args.readings.now in
@@ -20,7 +20,7 @@ returns-then-given-len g c =
     let p = loaded r.bench in
     let s = shown g.H.Host.ports r in
     let off : counts m rd ≡ false
-    = ne_eqb (length rd) (sensor_count (kinds_of m.sheet)) (λ e. c.if-given-len.true (e ∙ sym (sensors_long m.sheet r.bench.wiring c.requires.bench.wired) ∙ sym c.len.ensures.value)) in
+    = ne_eqb (length rd) (sensor_count (kinds_of m.sheet)) (λ e. c.if-given-self.true (e ∙ sym (sensors_long m.sheet r.bench.wiring c.requires.bench.wired))) in
     record {
       answer = sym (refuses m p rd s none off (leaves m p (Tick rd None) s));
       follows = follows M g.H.Host.ports g.P.Policy.mark g.met.H.Host.lawful r c.requires (Tick rd None) r (unchanged M r.bench) refl (sym (ap bare (refused m p rd s none off None))) (λ k e. absurd (both_ways (counts m rd) off k));
@@ -32,7 +32,7 @@ pub charge-requires : goal.charge-requires
 charge-requires g c =
     let r = c.args.self.now in
     let k : Begun g.H.Host.meaning g.H.Host.ports g.P.Policy.mark c.args.self.now c.args.readings.now
-    = record { lawful = g.met.H.Host.lawful; sound = c.requires; none = c.in_default.is; enough = c.if-given-len.false ∙ c.len.ensures.value } in
+    = record { lawful = g.met.H.Host.lawful; sound = c.requires; none = c.in_default.is; enough = c.if-given-self.false } in
     chargeable (g.H.Host.meaning r.bench.host) (loaded r.bench) r.bench.wiring (g.H.Host.ports r.bench.host) r.progress (k.lawful r.bench.host).rules.few_tasks (rests k)
 
 pub returns-in-Some-charge : goal.returns-in-Some-charge
@@ -41,7 +41,7 @@ returns-in-Some-charge g c =
     let w = r.bench.wiring in
     let v = g.H.Host.ports r.bench.host in
     let k : Begun g.H.Host.meaning g.H.Host.ports g.P.Policy.mark c.args.self.now c.args.readings.now
-    = record { lawful = g.met.H.Host.lawful; sound = c.requires; none = c.in_default.is; enough = c.if-given-len.false ∙ c.len.ensures.value } in
+    = record { lawful = g.met.H.Host.lawful; sound = c.requires; none = c.in_default.is; enough = c.if-given-self.false } in
     let es = c.in-Some-charge.ensures in
     let q : Charged k (Some c.in-Some-charge.task) c.charge.new.self = record { said = es.answer w.ports; left = es.after w v [] } in
     record {
@@ -57,7 +57,7 @@ open-requires g c =
     let w = r.bench.wiring in
     let v = g.H.Host.ports r.bench.host in
     let k : Begun g.H.Host.meaning g.H.Host.ports g.P.Policy.mark c.args.self.now c.args.readings.now
-    = record { lawful = g.met.H.Host.lawful; sound = c.requires; none = c.in_default.is; enough = c.if-given-len.false ∙ c.len.ensures.value } in
+    = record { lawful = g.met.H.Host.lawful; sound = c.requires; none = c.in_default.is; enough = c.if-given-self.false } in
     let es = c.in_default-charge.ensures in
     let q : Charged k None c.charge.new.self = record { said = es.answer w.ports; left = es.after w v [] } in
     record { wired = c.requires.bench.wired; going = still_going k q; below = still_below k q }
@@ -68,12 +68,15 @@ run_due-instructions-requires g c =
     let w = r.bench.wiring in
     let v = g.H.Host.ports r.bench.host in
     let k : Begun g.H.Host.meaning g.H.Host.ports g.P.Policy.mark c.args.self.now c.args.readings.now
-    = record { lawful = g.met.H.Host.lawful; sound = c.requires; none = c.in_default.is; enough = c.if-given-len.false ∙ c.len.ensures.value } in
+    = record { lawful = g.met.H.Host.lawful; sound = c.requires; none = c.in_default.is; enough = c.if-given-self.false } in
     let es = c.in_default-charge.ensures in
     let q : Charged k None c.charge.new.self = record { said = es.answer w.ports; left = es.after w v [] } in
-    let u : Opened k q c.open.new.bench c.open.new.self = record { same = c.open.ensures.same; opens = c.open.ensures.after [] } in
+    let b₁ = bench_of c.open.new.host r.bench.program w in
+    let u : Opened k q b₁ c.open.new.self = record { same = record { host = c.open.ensures.same; program = refl; wiring = refl }; opens = c.open.ensures.after [] } in
+    let f = fit_kept g.H.Host.meaning r.bench b₁ u.same (fit g.H.Host.meaning r.bench c.requires.bench) in
     record {
-      fit = fit_kept g.H.Host.meaning r.bench c.open.new.bench u.same (fit g.H.Host.meaning r.bench c.requires.bench);
+      wired = f.wired;
+      bounds = f.bounds;
       going = no_stop k q u;
       inside = queue_inside k q u;
       room = room k q u;
@@ -85,12 +88,14 @@ returns-in-Some-stop g c =
     let w = r.bench.wiring in
     let v = g.H.Host.ports r.bench.host in
     let k : Begun g.H.Host.meaning g.H.Host.ports g.P.Policy.mark c.args.self.now c.args.readings.now
-    = record { lawful = g.met.H.Host.lawful; sound = c.requires; none = c.in_default.is; enough = c.if-given-len.false ∙ c.len.ensures.value } in
+    = record { lawful = g.met.H.Host.lawful; sound = c.requires; none = c.in_default.is; enough = c.if-given-self.false } in
     let es = c.in_default-charge.ensures in
     let q : Charged k None c.charge.new.self = record { said = es.answer w.ports; left = es.after w v [] } in
-    let u : Opened k q c.open.new.bench c.open.new.self = record { same = c.open.ensures.same; opens = c.open.ensures.after [] } in
+    let b₁ = bench_of c.open.new.host r.bench.program w in
+    let u : Opened k q b₁ c.open.new.self = record { same = record { host = c.open.ensures.same; program = refl; wiring = refl }; opens = c.open.ensures.after [] } in
     let ran = c.run_due-instructions in
-    let e : Ended k q u ran.new.bench ran.new.self ran.result = record { after = ran.ensures.after; counted = ran.ensures.answer; same = ran.ensures.same } in
+    let b₂ = bench_of ran.new.host r.bench.program w in
+    let e : Ended k q u b₂ ran.new.self ran.result = record { after = ran.ensures.after; counted = ran.ensures.answer; same = record { host = ran.ensures.same; program = refl; wiring = refl } } in
     let x = c.in-Some-stop.stop in
     let is = c.in-Some-stop.is in
     record {
@@ -106,18 +111,20 @@ returns g c =
     let w = r.bench.wiring in
     let v = g.H.Host.ports r.bench.host in
     let k : Begun g.H.Host.meaning g.H.Host.ports g.P.Policy.mark c.args.self.now c.args.readings.now
-    = record { lawful = g.met.H.Host.lawful; sound = c.requires; none = c.in_default.is; enough = c.if-given-len.false ∙ c.len.ensures.value } in
+    = record { lawful = g.met.H.Host.lawful; sound = c.requires; none = c.in_default.is; enough = c.if-given-self.false } in
     let es = c.in_default-charge.ensures in
     let q : Charged k None c.charge.new.self = record { said = es.answer w.ports; left = es.after w v [] } in
-    let u : Opened k q c.open.new.bench c.open.new.self = record { same = c.open.ensures.same; opens = c.open.ensures.after [] } in
+    let b₁ = bench_of c.open.new.host r.bench.program w in
+    let u : Opened k q b₁ c.open.new.self = record { same = record { host = c.open.ensures.same; program = refl; wiring = refl }; opens = c.open.ensures.after [] } in
     let ran = c.run_due-instructions in
-    let e : Ended k q u ran.new.bench ran.new.self ran.result = record { after = ran.ensures.after; counted = ran.ensures.answer; same = ran.ensures.same } in
+    let b₂ = bench_of ran.new.host r.bench.program w in
+    let e : Ended k q u b₂ ran.new.self ran.result = record { after = ran.ensures.after; counted = ran.ensures.answer; same = record { host = ran.ensures.same; program = refl; wiring = refl } } in
     let o = c.choose-running.result in
     let going = c.in_default-stop.is in
     record {
       answer = ran_answer_is k q u e o going;
       follows = follows g.H.Host.meaning g.H.Host.ports g.P.Policy.mark k.lawful r k.sound (Tick c.args.readings.now o) _ (kept k q u e) c.choose-running.ensures.same_mark (ran_state k q u e o going)
-          (ran_asked k q u e o going c.deref.result.now (c.deref.ensures.0 ∙ c.list-pending.ensures ran.new.bench.wiring.ports) c.choose-running.ensures.choice);
+          (ran_asked k q u e o going c.deref.result.now (c.deref.ensures.0 ∙ c.list-pending.ensures w.ports) c.choose-running.ensures.choice);
       untouched = tt;
       unasked = tt;
     }
