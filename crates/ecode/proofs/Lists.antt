@@ -1,6 +1,6 @@
 -- Lists filled place by place, and tests of every number below a bound. Assumes nothing.
 use Rattle.std.specs.List.{list_all}
-use Rattle.std.proofs.Common.{[], ◌∷◌, ◌≡◌, ℕ, zero, suc, ◌+◌, ◌<◌, ◌≤◌, Bool, true, false, not, ◌&&◌, ◌||◌, List, length, get_or, take, set, sym, refl, ap, ◌∙◌, ap₂, inl, inr, add-one, arith, length-take, get_or-set_other, get_or-take, get_or-set_same, ext_get_or}
+use Rattle.std.proofs.Common.{[], ◌∷◌, ◌≡◌, ℕ, zero, suc, ◌+◌, ◌<◌, ◌≤◌, Bool, true, false, not, ◌&&◌, ◌||◌, List, length, get_or, take, set, sym, refl, ap, ◌∙◌, subst, ap₂, inl, inr, add-one, arith, length-take, get_or-set_other, get_or-take, get_or-set_same, ext_get_or}
 use native.Mathlib.Decide.{le_ind}
 use Rattle.std.proofs.lemmas.Bool.{cases_eq, and_from, and_parts, and_left}
 use Rattle.ecode.specs.Wiring.{all_below}
@@ -114,3 +114,16 @@ pub filled_front : {X : Type 0} (n : ℕ) (Q : ℕ → X) (xs : List X) (d : X) 
 filled_front n Q xs d len at =
     let long : length (take n xs) ≡ n = simp length-take (omega arith) in
     filled n Q (take n xs) d long (λ k h. get_or-take n xs k d h ∙ at k h)
+
+-- each place in its turn is changed
+module _ {X : Type 0} (d : X) (xs ys : List X) (i : ℕ) (h : i < length xs) where
+  -- with a place set, what holds of each below it and of the value holds of each below the next
+  pub change_here : (P : ℕ → X → Type 0) (v : X) → ((k : ℕ) → k < i → P k (get_or xs k d)) → P i v → (k : ℕ) → k < i + 1 → P k (get_or (set xs i v) k d)
+  change_here P v below at k lt = elim (cases_eq k i) [
+    | inl s ↦ subst (λ j. P j (get_or (set xs i v) j d)) (sym s) (subst (P i) (sym (get_or-set_same xs i v d h)) at)
+    | inr n ↦ subst (P k) (sym (get_or-set_other xs i k v d n)) (below k (omega arith))
+  ]
+
+  -- above it all stands as it stood
+  pub change_not : (v : X) → ((k : ℕ) → i ≤ k → get_or xs k d ≡ get_or ys k d) → (k : ℕ) → i + 1 ≤ k → get_or (set xs i v) k d ≡ get_or ys k d
+  change_not v above k le = let ne : (k ≡ i → ⊥) = λ e. omega arith in get_or-set_other xs i k v d ne ∙ above k (omega arith)

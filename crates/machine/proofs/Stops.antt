@@ -1,11 +1,15 @@
 -- A stop lasts: nothing that comes after it changes the state, and its ticks do not count.
-use Rattle.std.proofs.Common.{◌≡◌, ℕ, zero, suc, cond, List, [], ◌∷◌, Some, None, Option, refl, ap, ◌∙◌}
+use Rattle.std.proofs.Common.{◌≡◌, ℕ, zero, suc, cond, List, [], ◌∷◌, Some, None, Option, refl, ap, ◌∙◌, arith}
 use Rattle.ecode.specs.Verdict.{Contents}
 use Rattle.host.specs.Meaning.{Meaning}
 use Rattle.machine.specs.declared.stop.Stop.{Stop}
 use Rattle.machine.specs.State.{Event, State}
 use Rattle.machine.specs.Runner.{first_due, threads_on, unless_stopped, threads, tick, done}
 use Rattle.machine.specs.Calls.{RunCall, counts, is_running, if_going, leaves, after, logged, ticks_of, Tick, Done, AskState, AskPort}
+
+-- a stop is not the absence of one
+pub clash : {A : Type 0} {x : Stop} → ◌≡◌ {A = Option Stop} (Some x) None → A
+clash e = absurd (let z : ◌≡◌ {A = ℕ} 0 1 = cc in omega arith)
 
 abbrev pub Going : State → Type 0
 Going s = s.stop ≡ None
